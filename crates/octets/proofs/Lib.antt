@@ -1,0 +1,4 @@
+pub mod BoolLaws
+pub mod PartLaws
+pub mod TabLaws
+pub mod XorLaws

@@ -1,0 +1,59 @@
+// Total helpers on octets and numbers: code that uses them reads as its definition does.
+ghost use mathlib.Core.Path.{_≡_};
+ghost use mathlib.Core.List.{_++_};
+ghost use mathlib.Core.Bool.{cond};
+ghost use Prim.Native.Nat.{_-_, _<_, _≤_, min};
+ghost use lib.ListN.{length, drop, getD};
+ghost use Rattle.octets.specs.Sequence.{nextNumber};
+
+pub fn wide(x: u8) -> usize
+    ensures { λ r. ⌜ (r ≡ x) × (r < 256) ⌝ }
+{
+    x as usize
+}
+
+// The octet at i, counted from 0; 0 past the end.
+pub fn at(s: &[u8], i: usize) -> usize
+    ensures { λ r. ⌜ (r ≡ getD (now (s .entry)) i 0) × (r < 256) ⌝ }
+{
+    if i < s.len() { wide(s[i]) } else { 0 }
+}
+
+// a - b, or 0 where b is the greater.
+pub fn less(a: usize, b: usize) -> usize
+    ensures { λ r. ⌜ r ≡ a - b ⌝ }
+{
+    if b <= a { a - b } else { 0 }
+}
+
+pub fn lesser(a: usize, b: usize) -> usize
+    ensures { λ r. ⌜ r ≡ min a b ⌝ }
+{
+    if a <= b { a } else { b }
+}
+
+pub fn pick(test: bool, a: usize, b: usize) -> usize
+    ensures { λ r. ⌜ r ≡ cond test a b ⌝ }
+{
+    if test { a } else { b }
+}
+
+// The number after n in a burst.
+pub fn next_number(n: u8) -> u8
+    ensures { λ r. ⌜ r ≡ nextNumber n ⌝ }
+{
+    if 15 <= n { 1 } else { n + 1 }
+}
+
+// All of src, to the front of out. The node's and the origin's proofs show the room.
+pub fn copy(src: &[u8], out: &mut [u8])
+    requires { ⌜ length (now src) ≤ length (now out) ⌝ }
+    ensures { λ _. ⌜ now (out .exit) ≡ now (src .entry) ++ drop (length (now (src .entry))) (now (out .entry)) ⌝ }
+{
+    let n = src.len();
+    let mut i: usize = 0;
+    while i < n {
+        out[i] = src[i];
+        i += 1;
+    }
+}
