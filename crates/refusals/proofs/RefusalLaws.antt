@@ -37,3 +37,10 @@ if-refused (suc r) a b h = refl
 
 pub if-taken : {A : Type 0} (r : ℕ) (a b : A) → r ≡ 0 → ifTaken r a b ≡ a
 if-taken r a b e = rw e
+
+-- the answer of a call whose refusal is r: refused, and done
+pub refused-is : {A : Type 0} (q r : ℕ) (a b x : A) → r ≡ q → (r ≡ 0 → ⊥) → x ≡ b → x ≡ ifTaken q a b
+refused-is q r a b x e h k = k ∙ sym (if-refused q a b (λ z. h (e ∙ z)))
+
+pub done-is : {A : Type 0} (q r : ℕ) (a b x : A) → r ≡ q → r ≡ 0 → x ≡ a → x ≡ ifTaken q a b
+done-is q r a b x e z k = k ∙ sym (if-taken q a b (sym e ∙ z))

@@ -3,18 +3,13 @@ use borrow.Author.Tests.{le-leb, lt-leb}
 use borrow.Author.Needs.{needs}
 use Rattle.octets.proofs.next_number.Statement.{statement}
 use Rattle.octets.proofs.next_number.Tie as tie
-use Rattle.octets.proofs.next_number.Reads as reads
-use Rattle.octets.proofs.next_number.Lts as lts
 
--- src/lib.rt:45:29
 add-result : tie.Need-add-result
 add-result c = search needs
 
--- src/lib.rt:42:1
 returns : tie.Need-returns
 returns c = simp (le-leb 15 (c .before .args .n) (omega arith))
 
--- src/lib.rt:42:1
 returns-2 : tie.Need-returns-2
 returns-2 c = simp (lt-leb 15 (c .before .args .n) (omega arith))
 

@@ -3,14 +3,10 @@ use Rattle.refusals.proofs.RefusalLaws.{orElse-take}
 use borrow.Author.Needs.{needs}
 use Rattle.refusals.proofs.or_else.Statement.{statement}
 use Rattle.refusals.proofs.or_else.Tie as tie
-use Rattle.refusals.proofs.or_else.Reads as reads
-use Rattle.refusals.proofs.or_else.Lts as lts
 
--- src/lib.rt:5:1
 returns : tie.Need-returns
 returns c = search needs
 
--- src/lib.rt:5:1
 returns-2 : tie.Need-returns-2
 returns-2 c = orElse-take (c .before .args .a) (c .before .args .b) (c .before .args .a) refl (c .if1 .left)
 

@@ -1,0 +1,5 @@
+pub mod ShiftLaws
+pub mod RunLaws
+pub mod ChangeLaws
+pub mod SealLaws
+pub mod OneOutcome

@@ -1,0 +1,62 @@
+-- `fcs::good` meets its contract.
+use mathlib.Core.Path.{sym}
+use native.Mathlib.Omega.{arith}
+use lib.Seq.{length-take-le}
+use borrow.Author.Needs.{needs}
+use Rattle.fcs.proofs.SealLaws.{tested}
+use Rattle.fcs.proofs.good.Statement.{statement}
+use Rattle.fcs.proofs.good.Tie as tie
+
+less-requires : tie.Need-less-requires
+less-requires c κs = search needs
+
+at-requires : tie.Need-at-requires
+at-requires c κs = search needs
+
+less-requires-2 : tie.Need-less-requires-2
+less-requires-2 c κs = search needs
+
+at-requires-2 : tie.Need-at-requires-2
+at-requires-2 c κs = search needs
+
+lesser-requires : tie.Need-lesser-requires
+lesser-requires c κs = search needs
+
+slice-aggregate-fcs : tie.Need-slice-aggregate-fcs
+slice-aggregate-fcs c = sym (length-take-le _ _ (omega arith))
+
+fcs-requires : tie.Need-fcs-requires
+fcs-requires c κs = search needs
+
+mul-result : tie.Need-mul-result
+mul-result c = search needs
+
+add-result : tie.Need-add-result
+add-result c = search needs
+
+cast-result : tie.Need-cast-result
+cast-result c = search needs
+
+returns : tie.Need-returns
+returns c =
+    let part = c .before .before in
+    let high = part .before in
+    let low = high .before .before in
+    let a = low .before .before .before .args in
+    tested (a .n) (a .frame .now) (low .before .less .ensures) (low .at .ensures .0) (high .before .less2 .ensures) (high .at2 .ensures .0) (part .lesser .ensures) (c .fcs .ensures)
+
+pub good-spec : {M : Type 1} → statement M
+good-spec =
+    tie.close
+    (tie.spec
+    less-requires
+    at-requires
+    less-requires-2
+    at-requires-2
+    lesser-requires
+    slice-aggregate-fcs
+    fcs-requires
+    mul-result
+    add-result
+    cast-result
+    returns)

@@ -1,0 +1,261 @@
+// A frame: its fields, what refuses it, and the two calls that say what it is.
+ghost use mathlib.Core.Path.{_≡_};
+ghost use mathlib.Core.Bool.{true, false};
+ghost use Prim.Native.Nat.{_<_, _≤_};
+ghost use lib.ListN.{length};
+ghost use Rattle.refusals.specs.Refusals.{_orElse_};
+ghost use Rattle.frame.specs.Fields.{address, control, isVoice, fieldM, fieldC, stamp, moreBit, coding, sequence, noise, na, signalBits};
+ghost use Rattle.frame.specs.Orders.{refusal2, refusal3, refusal4, refusal5, refusal6, refusal7, refusal8, refusal9, refusal19, legalLength, linkRefusal, layoutRefusal, takenRefusal, voiceRefusal, signalRefusal};
+ghost use Rattle.frame.specs.Calls.{linkAnswer, takenAnswer};
+use coding::Coding;
+use octets::at;
+use refusals::or_else;
+use refusals::refuse;
+
+pub fn address_of(frame: &[u8]) -> usize
+    ensures { λ r. ⌜ (r ≡ address (now (frame .entry))) × (r < 8192) ⌝ }
+{
+    at(frame, 0) / 4 * 128 + at(frame, 1) / 2
+}
+
+fn control_of(frame: &[u8]) -> usize
+    ensures { λ r. ⌜ r ≡ control (now (frame .entry)) ⌝ }
+{
+    at(frame, 2) / 32 * 32 + at(frame, 2) % 16
+}
+
+pub fn is_voice(frame: &[u8]) -> bool
+    ensures { λ r. ⌜ r ≡ isVoice (now (frame .entry)) ⌝ }
+{
+    control_of(frame) == 239
+}
+
+pub fn field_m(frame: &[u8]) -> usize
+    ensures { λ r. ⌜ (r ≡ fieldM (now (frame .entry))) × (r < 4) ⌝ }
+{
+    at(frame, 4) / 16 % 4
+}
+
+pub fn field_c(frame: &[u8]) -> usize
+    ensures { λ r. ⌜ (r ≡ fieldC (now (frame .entry))) × (r < 4) ⌝ }
+{
+    at(frame, 4) % 4
+}
+
+pub fn coding_of(frame: &[u8]) -> Coding
+    ensures { λ r. ⌜ r .0 ≡ coding (now (frame .entry)) ⌝ }
+{
+    Coding((at(frame, 6) % 32) as u8)
+}
+
+pub fn stamp_of(frame: &[u8]) -> u8
+    ensures { λ r. ⌜ r ≡ stamp (now (frame .entry)) ⌝ }
+{
+    at(frame, 5) as u8
+}
+
+pub fn more_bit(frame: &[u8]) -> u8
+    ensures { λ r. ⌜ (r ≡ moreBit (now (frame .entry))) × (r < 2) ⌝ }
+{
+    (at(frame, 6) / 128 % 2) as u8
+}
+
+pub fn sequence_of(frame: &[u8]) -> u8
+    ensures { λ r. ⌜ (r ≡ sequence (now (frame .entry))) × (r < 16) ⌝ }
+{
+    (at(frame, 7) / 16 % 16) as u8
+}
+
+pub fn noise_of(frame: &[u8]) -> u8
+    ensures { λ r. ⌜ (r ≡ noise (now (frame .entry))) × (r < 16) ⌝ }
+{
+    (at(frame, 7) % 16) as u8
+}
+
+pub fn na_of(frame: &[u8]) -> u8
+    ensures { λ r. ⌜ (r ≡ na (now (frame .entry))) × (r < 2) ⌝ }
+{
+    (at(frame, 6) % 2) as u8
+}
+
+pub fn signal_bits(frame: &[u8]) -> u8
+    ensures { λ r. ⌜ (r ≡ signalBits (now (frame .entry))) × (r < 16) ⌝ }
+{
+    (at(frame, 7) % 16) as u8
+}
+
+fn refusal_2(frame: &[u8]) -> u8
+    ensures { λ r. ⌜ r ≡ refusal2 (now (frame .entry)) ⌝ }
+{
+    let outside = refusals::address_bad(address_of(frame));
+    refuse(
+        (at(frame, 0) % 2 != 0) | (at(frame, 1) % 2 != 1) | outside,
+        2,
+    )
+}
+
+fn refusal_3(frame: &[u8]) -> u8
+    ensures { λ r. ⌜ r ≡ refusal3 (now (frame .entry)) ⌝ }
+{
+    let control = control_of(frame);
+    refuse((control != 239) & (control != 3), 3)
+}
+
+fn refusal_4(frame: &[u8]) -> u8
+    ensures { λ r. ⌜ r ≡ refusal4 (now (frame .entry)) ⌝ }
+{
+    let covered = octets::pick(is_voice(frame), 8, octets::less(frame.len(), 2));
+    refuse(!fcs::good(frame, covered), 4)
+}
+
+fn refusal_5(frame: &[u8]) -> u8
+    ensures { λ r. ⌜ r ≡ refusal5 (now (frame .entry)) ⌝ }
+{
+    refuse(at(frame, 3) != 68, 5)
+}
+
+fn refusal_6(frame: &[u8]) -> u8
+    ensures { λ r. ⌜ r ≡ refusal6 (now (frame .entry)) ⌝ }
+{
+    refuse(is_voice(frame) & coding_of(frame).reserved(), 6)
+}
+
+fn refusal_7(frame: &[u8]) -> u8
+    ensures { λ r. ⌜ r ≡ refusal7 (now (frame .entry)) ⌝ }
+{
+    let m = field_m(frame);
+    let d = octets::wide(coding_of(frame).droppable_bits());
+    refuse(
+        (m != octets::pick(is_voice(frame), d, 0)) | (m < field_c(frame)),
+        7,
+    )
+}
+
+fn legal_length(frame: &[u8]) -> usize
+    ensures { λ r. ⌜ r ≡ legalLength (now (frame .entry)) ⌝ }
+{
+    let dropped = octets::less(field_m(frame), field_c(frame));
+    octets::pick(is_voice(frame), coding_of(frame).frame_length(dropped), 10)
+}
+
+fn refusal_8(frame: &[u8]) -> u8
+    ensures { λ r. ⌜ r ≡ refusal8 (now (frame .entry)) ⌝ }
+{
+    refuse(frame.len() != legal_length(frame), 8)
+}
+
+fn refusal_9(frame: &[u8]) -> u8
+    ensures { λ r. ⌜ r ≡ refusal9 (now (frame .entry)) ⌝ }
+{
+    refuse(200 < at(frame, 5), 9)
+}
+
+fn refusal_19(frame: &[u8], voicecall: bool) -> u8
+    ensures { λ r. ⌜ r ≡ refusal19 voicecall (now (frame .entry)) ⌝ }
+{
+    let voice = is_voice(frame);
+    if voicecall {
+        refuse(!voice, 19)
+    } else {
+        refuse(voice, 19)
+    }
+}
+
+fn header_refusal(frame: &[u8]) -> u8
+    ensures { λ r. ⌜ r ≡ refusal2 (now (frame .entry)) orElse refusal3 (now (frame .entry)) orElse refusal4 (now (frame .entry)) orElse refusal5 (now (frame .entry)) ⌝ }
+{
+    let after = or_else(refusal_4(frame), refusal_5(frame));
+    or_else(refusal_2(frame), or_else(refusal_3(frame), after))
+}
+
+// The length is judged alone and first: a frame of a megabyte costs no sum.
+pub fn link_refusal(frame: &[u8]) -> u8
+    ensures { λ r. ⌜ r ≡ linkRefusal (now (frame .entry)) ⌝ }
+{
+    let first = refusals::refusal_1(frame.len());
+    if first != 0 {
+        return first;
+    }
+    header_refusal(frame)
+}
+
+fn layout_refusal(frame: &[u8]) -> u8
+    ensures { λ r. ⌜ r ≡ layoutRefusal (now (frame .entry)) ⌝ }
+{
+    let after = or_else(refusal_8(frame), refusal_9(frame));
+    or_else(refusal_7(frame), after)
+}
+
+pub fn taken_refusal(frame: &[u8]) -> u8
+    ensures { λ r. ⌜ r ≡ takenRefusal (now (frame .entry)) ⌝ }
+{
+    let body = or_else(refusal_6(frame), layout_refusal(frame));
+    or_else(link_refusal(frame), body)
+}
+
+pub fn voice_refusal(frame: &[u8]) -> u8
+    ensures { λ r. ⌜ r ≡ voiceRefusal (now (frame .entry)) ⌝ }
+{
+    let body = or_else(refusal_6(frame), layout_refusal(frame));
+    or_else(link_refusal(frame), or_else(refusal_19(frame, true), body))
+}
+
+pub fn signal_refusal(frame: &[u8]) -> u8
+    ensures { λ r. ⌜ r ≡ signalRefusal (now (frame .entry)) ⌝ }
+{
+    let body = layout_refusal(frame);
+    or_else(link_refusal(frame), or_else(refusal_19(frame, false), body))
+}
+
+pub struct LinkFacts {
+    pub refusal: u8,
+    pub voice: bool,
+    pub address: u16,
+}
+
+// Whether a frame is whole and in its form (1 to 5), and what it is: voice or not, and its address.
+pub fn link(frame: &[u8]) -> LinkFacts
+    ensures { λ r. ⌜ r ≡ linkAnswer (now (frame .entry)) ⌝ }
+{
+    let refusal = link_refusal(frame);
+    if refusal != 0 {
+        return LinkFacts {
+            refusal,
+            voice: false,
+            address: 0,
+        };
+    }
+    LinkFacts {
+        refusal: 0,
+        voice: is_voice(frame),
+        address: address_of(frame) as u16,
+    }
+}
+
+pub struct TakenFacts {
+    pub refusal: u8,
+    pub voice: bool,
+    pub length: usize,
+    pub c: u8,
+}
+
+// Whether a node takes a frame (1 to 9), and what it is: voice or not, its length, and its C.
+pub fn taken(frame: &[u8]) -> TakenFacts
+    ensures { λ r. ⌜ r ≡ takenAnswer (now (frame .entry)) ⌝ }
+{
+    let refusal = taken_refusal(frame);
+    if refusal != 0 {
+        return TakenFacts {
+            refusal,
+            voice: false,
+            length: 0,
+            c: 0,
+        };
+    }
+    TakenFacts {
+        refusal: 0,
+        voice: is_voice(frame),
+        length: frame.len(),
+        c: field_c(frame) as u8,
+    }
+}

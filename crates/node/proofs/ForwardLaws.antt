@@ -1,0 +1,76 @@
+-- What is known of a call that a node does not refuse, both ways, and the frame as `send_on` puts it together.
+use Prim.Native.Nat.{ℕ, _+_, _-_, _*_, _^_, _≤_, _<_}
+use mathlib.Core.Path.{_≡_, refl, ap, sym, _∙_}
+use mathlib.Core.Bool.{false}
+use mathlib.Core.List.{List, _++_}
+use native.Mathlib.Omega.{arith}
+use lib.ListN.{length, take, drop, length-append, length-take, length-drop}
+use lib.Seq.{take-all, take-at, length-take-le}
+use borrow.Author.Tests.{ltb-false, le-ltb}
+use borrow.Rule.Slice.PartMut.{putMid, midOf}
+use Rattle.octets.proofs.PartLaws.{grown}
+use Rattle.refusals.specs.Refusals.{_orElse_, refuse, addressBad}
+use Rattle.refusals.proofs.RefusalLaws.{orElse-zero, refuse-zero, in-range}
+use Rattle.fcs.specs.Fcs.{fcsOctets}
+use Rattle.frame.specs.Orders.{takenRefusal}
+use Rattle.frame.proofs.FrameLaws.{passes}
+use Rattle.onward.specs.Onward.{dropped, onwardHead, onwardField, framed, onward}
+use Rattle.onward.proofs.OnwardLaws.{onward-length, field-length, kept, sealed-behind}
+use Rattle.node.specs.Node.{forwardRefusal, Sendable}
+
+pub record Forwarded (level wait addr : ℕ) (f : List ℕ) (room : ℕ) : Type 0 where
+  pub low : level ≤ 3
+  pub inside : addressBad addr ≡ false
+  pub legal : takenRefusal f ≡ 0
+  pub roomy : length (onward level wait addr f) ≤ room
+
+module _ (level wait addr : ℕ) (f : List ℕ) (room : ℕ) where
+  pub forwarded : forwardRefusal level wait addr f room ≡ 0 → Forwarded level wait addr f room
+  unfolding forwardRefusal
+  forwarded h =
+      let p = orElse-zero _ _ h in
+      let q = orElse-zero _ _ (p .1) in
+      let r = orElse-zero _ _ (q .1) in
+      record {
+        low = ltb-false _ _ (refuse-zero _ 9 (p .0));
+        inside = refuse-zero _ 14 (q .0);
+        legal = r .0;
+        roomy = ltb-false _ _ (refuse-zero _ 15 (r .1));
+      }
+
+  pub not-refused : Forwarded level wait addr f room → forwardRefusal level wait addr f room ≡ 0
+  unfolding forwardRefusal
+  not-refused t = simp (le-ltb _ _ (t .low), t .inside, t .legal, le-ltb _ _ (t .roomy))
+
+pub sendable : (n level wait addr : ℕ) (f out : List ℕ) → forwardRefusal level wait addr f (length out) ≡ 0 → n ≡ length (onward level wait addr f)
+    → wait < 2 ^ 32 → Sendable n level wait addr f out
+sendable n level wait addr f out h e w =
+    let t = forwarded level wait addr f (length out) h in
+    let k = kept level wait addr f (passes f (t .legal)) in
+    let a = in-range addr (t .inside) in
+    let l = onward-length level wait addr f in
+    record { size = e; long = omega arith; within = omega arith; room = omega (arith, t .roomy); brief = w; ranged = omega arith }
+
+-- the head, the voice field and the check, put one behind the other
+module _ (n l w a : ℕ) (f O x₁ p₂ y : List ℕ) (s : Sendable n l w a f O) where
+  pub assembled : x₁ ≡ onwardHead l w a f ++ drop 8 O
+      → p₂ ≡ take (n - 2 - 8) (drop 8 f) ++ drop (length (take (n - 2 - 8) (drop 8 f))) (midOf 8 (length x₁ - 8) x₁)
+      → y ≡ take (n - 2) (putMid 8 (length x₁ - 8) x₁ p₂) ++ fcsOctets (take 8 (putMid 8 (length x₁ - 8) x₁ p₂)) ++ drop (n - 2 + 2) (putMid 8 (length x₁ - 8) x₁ p₂)
+      → y ≡ onward l w a f ++ drop n O
+  unfolding onward onwardHead onwardField framed
+  assembled e₁ e₂ e₃ =
+      let H : List ℕ = onwardHead l w a f in
+      let F : List ℕ = onwardField l f in
+      let many : n - 2 - 8 ≡ length f - 10 - 16 * dropped l f = omega (arith, s .size, onward-length l w a f, s .long) in
+      let eF : take (n - 2 - 8) (drop 8 f) ≡ F = ap (λ (k : ℕ). take k (drop 8 f)) many in
+      let lF : length F ≡ n - 2 - 8 = field-length l w a f ∙ sym many in
+      let x₂ : List ℕ = putMid 8 (length x₁ - 8) x₁ p₂ in
+      let e₂′ : p₂ ≡ F ++ drop (n - 2 - 8) (midOf 8 (length x₁ - 8) x₁) =
+      e₂ ∙ ap (λ (v : List ℕ). v ++ drop (length v) (midOf 8 (length x₁ - 8) x₁)) eF ∙ ap (λ (k : ℕ). F ++ drop k (midOf 8 (length x₁ - 8) x₁)) lF in
+      let g₂ : x₂ ≡ (H ++ F) ++ drop (8 + (n - 2 - 8)) O = grown H F O x₁ p₂ 8 (n - 2 - 8) refl lF e₁ e₂′ in
+      let at : 8 + (n - 2 - 8) ≡ n - 2 = omega (arith, s .long) in
+      let g₂′ : x₂ ≡ (H ++ F) ++ drop (n - 2) O = g₂ ∙ ap (λ (k : ℕ). (H ++ F) ++ drop k O) at in
+      let lT : length (H ++ F) ≡ n - 2 = length-append H F ∙ ap (λ (k : ℕ). 8 + k) lF ∙ at in
+      let end : n - 2 + 2 ≡ n = omega (arith, s .long) in
+      sealed-behind (H ++ F) O x₂ y (n - 2) lT (omega (arith, s .long)) g₂′ e₃
+      ∙ ap (λ (k : ℕ). (H ++ F ++ fcsOctets H) ++ drop k O) end

@@ -1,0 +1,122 @@
+/* One burst of speech from an origin through two nodes to an endpoint, as an operator would want to
+ * see it: what each frame weighs on the way, when it is played and what is left of the voice. */
+
+#include <stdio.h>
+#include <string.h>
+
+#include "pelgrant.h"
+
+enum { CODING = 21, NOISE = 3, BUILD_OUT = 100, PACKETS = 6 };
+
+typedef struct {
+    uint8_t octets[PELGRANT_FRAME_MAX];
+    size_t length;
+} frame;
+
+/* A slow rise and fall, a little further on with each packet. */
+static void speak(int packet, uint8_t samples[PELGRANT_SAMPLES])
+{
+    for (int n = 0; n < PELGRANT_SAMPLES; n++) {
+        int phase = (n + 5 * packet) % 64;
+        samples[n] = (uint8_t)(phase < 32 ? phase : 63 - phase);
+    }
+}
+
+static uint8_t node(frame *passing, uint8_t level, uint32_t from, uint32_t to, uint16_t address)
+{
+    frame out = {{0}, 0};
+    uint64_t length = 0;
+    uint8_t number = pelgrant_forward(passing->octets, passing->length, level, from, to, address,
+        out.octets, sizeof out.octets, &length, 1);
+    if (number == 0) {
+        out.length = (size_t)length;
+        *passing = out;
+    }
+    return number;
+}
+
+static unsigned sum(const uint8_t samples[PELGRANT_SAMPLES])
+{
+    unsigned total = 0;
+    for (int n = 0; n < PELGRANT_SAMPLES; n++)
+        total += samples[n];
+    return total;
+}
+
+static int refused(const char *where, uint8_t number)
+{
+    printf("refused at %s: %u\n", where, number);
+    return 1;
+}
+
+int main(void)
+{
+    /* The second node is busy in the middle of the burst and drops what it may. */
+    static const uint8_t busy[PACKETS] = {0, 0, 2, 2, 1, 0};
+    static const uint32_t waits[PACKETS] = {12, 20, 64, 58, 47, 31};
+    static const char *const names[] = {"START", "DATA", "STOP"};
+
+    uint8_t sseq = 0;
+    uint64_t record[PELGRANT_RECORD];
+    uint8_t heard[PELGRANT_SAMPLES] = {0};
+    uint8_t number = pelgrant_fresh(BUILD_OUT, record, PELGRANT_RECORD);
+    if (number != 0)
+        return refused("the endpoint", number);
+
+    printf("One burst, coding type %d, two nodes, build-out %d ms\n\n", CODING, BUILD_OUT);
+    printf("step   sequence  octets sent  after node 1  after node 2  delay  arrives   due  dropped  reset"
+           "  sum spoken  sum heard  first samples heard\n");
+    for (int packet = 0; packet < PACKETS; packet++) {
+        uint8_t step = packet == 0 ? PELGRANT_START : packet < PACKETS - 1 ? PELGRANT_DATA : PELGRANT_STOP;
+        uint8_t samples[PELGRANT_SAMPLES];
+        uint64_t answer[4];
+        frame passing = {{0}, 0};
+        uint32_t made = (uint32_t)(4294967280u + 16u * (uint32_t)packet); /* the node's clock rolls over */
+
+        speak(packet, samples);
+        number = pelgrant_send(&sseq, step, CODING, NOISE, samples, sizeof samples, 0, made, made + 2, 128,
+            passing.octets, sizeof passing.octets, answer, 1);
+        if (number != 0)
+            return refused("the origin", number);
+        passing.length = (size_t)answer[0];
+        printf("%-5s  %8d  %11zu", names[step], passing.octets[7] >> 4, passing.length);
+
+        number = node(&passing, 1, made + 2, made + 9, 300);
+        if (number != 0)
+            return refused("node 1", number);
+        printf("  %12zu", passing.length);
+
+        number = node(&passing, busy[packet], made + 9, made + 9 + waits[packet], 4711);
+        if (number != 0)
+            return refused("node 2", number);
+        uint64_t clock = 1000 + 16 * (uint64_t)packet + 9 + waits[packet];
+        printf("  %12zu  %5d  %7llu", passing.length, passing.octets[5], (unsigned long long)clock);
+
+        number = pelgrant_arrive(record, PELGRANT_RECORD, passing.octets, passing.length, clock, answer, 4,
+            heard, sizeof heard);
+        if (number != 0)
+            return refused("the endpoint", number);
+        printf("  %4llu  %7llu  %5s  %10u  %9u ", (unsigned long long)answer[0], (unsigned long long)answer[3],
+            answer[1] ? "yes" : "no", sum(samples), sum(heard));
+        for (int n = 0; n < 10; n++)
+            printf(" %d", heard[n]);
+        printf("\n");
+    }
+
+    /* After the burst the endpoint plays noise at the level that came with the last packet. */
+    uint8_t noise[PELGRANT_SAMPLES], fill[PELGRANT_SAMPLES];
+    uint64_t filled = 0, idle = 0;
+    double level = 0;
+    memset(noise, 16, sizeof noise);
+    number = pelgrant_fill(heard, sizeof heard, noise, sizeof noise, (uint8_t)record[PELGRANT_M_LAST],
+        fill, sizeof fill, &filled, 1);
+    if (number != 0)
+        return refused("the fill", number);
+    number = pelgrant_noise_level((uint8_t)record[PELGRANT_LAST_NOISE], &idle, 1, &level, 1);
+    if (number != 0)
+        return refused("the noise level", number);
+    printf("\nAfter the burst, from %llu ms: %llu samples of %s, noise level %.1f dBmc0%s\n",
+        (unsigned long long)record[PELGRANT_END], (unsigned long long)filled,
+        memcmp(fill, noise, sizeof fill) == 0 ? "noise" : "the last packet", level, idle ? " (idle)" : "");
+    return 0;
+}

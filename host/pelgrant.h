@@ -1,0 +1,155 @@
+/* The calls of the card, for a host in C. Document 01 is the law of what they do.
+ *
+ * Every call takes any octets and any numbers, comes to an end and gives a refusal number of
+ * document 01, 0 when done. Where several apply, the one that stands first in the call's order,
+ * given with each call, is the answer.
+ *
+ * A slice is a pointer and its length in elements; the pointer must be good for that length.
+ * What is written must not overlap with anything else lent to the same call. Nothing is kept
+ * after the call, and nothing outside the slices is written.
+ *
+ * Answers. 16 comes before all else where an answer slice is too short: nothing at all is touched
+ * then. Otherwise the answer is always written, zeros where the call is refused. An answer slice
+ * may be longer than is needed; the rest of it is left alone. In the orders below this first 16 is
+ * written "16 (answer)".
+ *
+ * A refused call leaves SSEQ, the record and the buffer for a frame as they came. A frame written
+ * leaves the rest of its buffer as it was.
+ *
+ * A frame is the octets between two flags, zero bits already taken out: 10 to 490 octets, and none
+ * that is written here is longer than PELGRANT_FRAME_MAX. A wait is lent as two readings of a
+ * 32-bit millisecond clock, from and to, which may roll over in between.
+ */
+#ifndef PELGRANT_H
+#define PELGRANT_H
+
+#include <stddef.h>
+#include <stdint.h>
+
+#ifdef __cplusplus
+extern "C" {
+#endif
+
+enum {
+    PELGRANT_SAMPLES = 128,   /* in a packet, one to an octet */
+    PELGRANT_FRAME_MAX = 138, /* octets of the longest frame that is written */
+    PELGRANT_RECORD = 6       /* numbers in an endpoint's record */
+};
+
+/* The steps of a burst. */
+enum { PELGRANT_START = 0, PELGRANT_DATA = 1, PELGRANT_STOP = 2 };
+
+/* The fields of an endpoint's record. */
+enum {
+    PELGRANT_BUILD_OUT = 0,
+    PELGRANT_RSEQ = 1,
+    PELGRANT_LAST_CLOCK = 2,
+    PELGRANT_END = 3,
+    PELGRANT_M_LAST = 4,
+    PELGRANT_LAST_NOISE = 5
+};
+
+/* The origin makes a voice frame.
+ * Lent: sseq, the origin's number, 0 before the first burst; 128 samples, each below 2^S of the
+ *   coding; level, the blocks to drop, 0 to 3; the wait; the outgoing address; out, for the frame.
+ * Back: answer[0] the frame's length; the frame in out; sseq moved on.
+ * Refusals: 16 (answer), 13 for a step above 2, 14, 13, 6, 12, 11, 10, 15, 16.
+ * Untouched: samples; the rest of out; where refused, sseq and all of out. */
+uint8_t pelgrant_send(uint8_t *sseq, uint8_t step, uint8_t coding, uint8_t noise,
+    const uint8_t *samples, size_t samples_len, uint8_t level, uint32_t from, uint32_t to, uint16_t address,
+    uint8_t *out, size_t out_len, uint64_t *answer, size_t answer_len);
+
+/* Makes a signalling frame.
+ * Lent: bits, A, B, C, D as 8, 4, 2, 1; na, 0 or 1; the wait; the outgoing address; out, for the frame.
+ * Back: answer[0] the frame's length, 10; the frame in out.
+ * Refusals: 16 (answer), 12, 15, 16.
+ * Untouched: the rest of out; where refused, all of it. */
+uint8_t pelgrant_signal_write(uint8_t bits, uint8_t na, uint32_t from, uint32_t to, uint16_t address,
+    uint8_t *out, size_t out_len, uint64_t *answer, size_t answer_len);
+
+/* A node sends a frame of either kind on: blocks dropped, stamp and address written, check made afresh.
+ * Lent: the frame; level, 0 to 3; the wait; the outgoing address; out, for the frame sent on.
+ * Back: answer[0] the length of the frame sent on; that frame in out.
+ * Refusals: 16 (answer), 10, 15, 1, 2, 3, 4, 5, 6 (voice only), 7, 8, 9, 16.
+ * Untouched: frame; the rest of out; where refused, all of it. */
+uint8_t pelgrant_forward(const uint8_t *frame, size_t frame_len, uint8_t level, uint32_t from, uint32_t to,
+    uint16_t address, uint8_t *out, size_t out_len, uint64_t *answer, size_t answer_len);
+
+/* Reads a voice frame without a record or a clock.
+ * Lent: the frame.
+ * Back: answer[0] the sample bits S, answer[1] the blocks dropped; the first 128 of samples.
+ * Refusals: 16 (answer below 2 or samples below 128), 1, 2, 3, 4, 5, 19, 6, 7, 8, 9.
+ * Untouched: frame. */
+uint8_t pelgrant_read(const uint8_t *frame, size_t frame_len, uint64_t *answer, size_t answer_len,
+    uint8_t *samples, size_t samples_len);
+
+/* Makes an endpoint's record: the build-out as it is given, all else 0. A build-out above 199 is
+ * refused by the calls that use it, not here.
+ * Lent: record, exactly 6 numbers.
+ * Back: the record.
+ * Refusals: 14 where record_len is not 6.
+ * Untouched: where refused, the record. */
+uint8_t pelgrant_fresh(uint8_t buildout, uint64_t *record, size_t record_len);
+
+/* A voice frame arrives at the endpoint: when it is to be played, and what.
+ * Lent: the record, exactly 6 numbers; the frame; clock, the play clock in ms, up to 2^62.
+ * Back: answer[0] the time it is due, answer[1] 1 if the decoder is to be reset, else 0, answer[2] the
+ *   sample bits S, answer[3] the blocks dropped; the first 128 of samples; the record moved on.
+ * Refusals: 16 (answer below 4 or samples below 128), 14 where record_len is not 6, 14, 18,
+ *   1, 2, 3, 4, 5, 19, 6, 7, 8, 9, 17, 20.
+ * Untouched: frame; where refused, the record. */
+uint8_t pelgrant_arrive(uint64_t *record, size_t record_len, const uint8_t *frame, size_t frame_len, uint64_t clock,
+    uint64_t *answer, size_t answer_len, uint8_t *samples, size_t samples_len);
+
+/* The same on a record by value.
+ * Lent and back as for pelgrant_arrive, but the record is only read, and the first 6 of after are the
+ *   record after the call: where refused, the record as it came.
+ * Refusals: as for pelgrant_arrive, the first 16 also where after is below 6.
+ * Untouched: record and frame; after where record_len is not 6. */
+uint8_t pelgrant_arrive_value(const uint64_t *record, size_t record_len, const uint8_t *frame, size_t frame_len,
+    uint64_t clock, uint64_t *after, size_t after_len, uint64_t *answer, size_t answer_len,
+    uint8_t *samples, size_t samples_len);
+
+/* Reads a signalling frame.
+ * Lent: the build-out, 0 to 199; the frame.
+ * Back: answer[0] the bits, A, B, C, D as 8, 4, 2, 1, answer[1] N/A, answer[2] the ms to hold them.
+ * Refusals: 16 (answer below 3), 14, 1, 2, 3, 4, 5, 19, 7, 8, 9, 17.
+ * Untouched: frame. */
+uint8_t pelgrant_signal_read(uint8_t buildout, const uint8_t *frame, size_t frame_len,
+    uint64_t *answer, size_t answer_len);
+
+/* What to play where no packet came.
+ * Lent: last, the samples last played, and noise, the host's, both at least 128; m_last of the record.
+ * Back: the first 128 of out, copied from last if m_last is 1, else from noise, and answer[0] 128; or
+ *   answer[0] 0 where last or noise is shorter than 128.
+ * Refusals: 16 (answer below 1 or out below 128).
+ * Untouched: last and noise; out where answer[0] is 0. */
+uint8_t pelgrant_fill(const uint8_t *last, size_t last_len, const uint8_t *noise, size_t noise_len, uint8_t m_last,
+    uint8_t *out, size_t out_len, uint64_t *answer, size_t answer_len);
+
+/* The noise level that a code stands for.
+ * Lent: the code, 0 to 15.
+ * Back: answer[0] 1 if the code says idle, else 0; level[0] in dBmc0, 0.0 where idle.
+ * Refusals: 16 (answer or level below 1), 12. */
+uint8_t pelgrant_noise_level(uint8_t code, uint64_t *answer, size_t answer_len, double *level, size_t level_len);
+
+/* Whose a frame is, judged by its link layer alone.
+ * Lent: the frame.
+ * Back: answer[0] 1 for voice, 0 for signalling; answer[1] the address.
+ * Refusals: 16 (answer below 2), 1, 2, 3, 4, 5.
+ * Untouched: frame. */
+uint8_t pelgrant_link(const uint8_t *frame, size_t frame_len, uint64_t *answer, size_t answer_len);
+
+/* What a node finds in a frame before it sends it on.
+ * Lent: the frame.
+ * Back: answer[0] 1 for voice, 0 for signalling; answer[1] its length; answer[2] C, the blocks that may
+ *   still be dropped.
+ * Refusals: 16 (answer below 3), 1, 2, 3, 4, 5, 6 (voice only), 7, 8, 9.
+ * Untouched: frame. */
+uint8_t pelgrant_taken(const uint8_t *frame, size_t frame_len, uint64_t *answer, size_t answer_len);
+
+#ifdef __cplusplus
+}
+#endif
+
+#endif

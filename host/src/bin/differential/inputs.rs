@@ -1,0 +1,370 @@
+//! What the calls are tried with: right in all, wrong in one thing, or wrong in several, with the
+//! values at and just past each limit oftener than the rest.
+
+use crate::random::Random;
+use pelgrant_host::document::{check_sequence, Coding};
+
+pub const CLOCK_MAX: u64 = 1 << 62;
+pub const LEGAL_CODINGS: [u8; 17] = [0, 1, 2, 3, 4, 5, 6, 7, 8, 9, 10, 11, 12, 13, 20, 21, 24];
+
+/// The refusals that only the flat form has, counted apart from document 01's.
+pub const FLAT_13: usize = 21;
+pub const FLAT_14: usize = 22;
+pub const FLAT_16: usize = 23;
+
+/// The numbers that an input is made to be refused by.
+#[derive(Clone, Copy)]
+pub struct Faults(u32);
+
+impl Faults {
+    pub const NONE: Faults = Faults(0);
+
+    /// Half of all inputs are right; of the others half have one fault, so that each refusal is
+    /// reached, and half have several, so that their order is tried.
+    pub fn among(random: &mut Random, numbers: &[usize]) -> Faults {
+        match random.below(4) {
+            0 | 1 => Faults::NONE,
+            2 => Faults(1 << random.pick(numbers)),
+            _ => {
+                let some = numbers.iter().filter(|_| random.one_in(4));
+                Faults(some.fold(0, |set, number| set | 1 << number))
+            }
+        }
+    }
+
+    pub fn has(self, number: usize) -> bool {
+        self.0 >> number & 1 == 1
+    }
+}
+
+// ---- Frames ----
+
+const VOICE: u8 = 239;
+const SIGNALLING: u8 = 3;
+const POLL: u8 = 16;
+const FRAME_FAULTS: [usize; 9] = [1, 2, 3, 4, 5, 6, 7, 8, 9];
+
+/// A frame before its check is worked out.
+pub struct Draft {
+    pub head: [u8; 8],
+    length: usize,
+    check_damage: u16,
+}
+
+impl Draft {
+    pub fn voice(random: &mut Random, faults: Faults) -> Draft {
+        let number = match faults.has(6) {
+            true => another(random, |random| random.octet_below(32), |number| Coding::of(*number).is_none()),
+            false => random.pick(&LEGAL_CODINGS),
+        };
+        let facts = Coding::of(number).unwrap_or(Coding { sample_bits: 5, droppable: 3, resets: false });
+        let legal_left = random.octet_below(u16::from(facts.droppable) + 1);
+        let (at_first, left) = if faults.has(7) {
+            another(
+                random,
+                |random| (random.octet_below(4), random.octet_below(4)),
+                |&(at_first, left)| at_first != facts.droppable || left > at_first,
+            )
+        } else {
+            (facts.droppable, legal_left)
+        };
+        let blocks = i64::from(facts.sample_bits) - i64::from(at_first) + i64::from(left);
+        let more = if random.one_in(4) { 0 } else { 0x80 };
+        let sequence = if random.one_in(3) { 0 } else { random.octet_below(16) };
+        let octets_7_and_8 = [more | number, sequence << 4 | random.octet_below(16)];
+        let length = 16 * blocks.max(0) as usize + 10;
+        let mut draft = Draft::either(random, faults, VOICE, at_first << 4 | left, octets_7_and_8, length);
+        if random.one_in(2) {
+            draft.head[6] |= random.octet() & 0x60;
+        }
+        draft
+    }
+
+    pub fn signalling(random: &mut Random, faults: Faults) -> Draft {
+        let dropping =
+            if faults.has(7) { another(random, |random| random.octet() & 0x33, |&dropping| dropping != 0) } else { 0 };
+        let mut octets_7_and_8 = [random.octet() & 1, random.octet() & 15];
+        if random.one_in(2) {
+            octets_7_and_8 = [random.octet(), random.octet()];
+        }
+        Draft::either(random, faults, SIGNALLING, dropping, octets_7_and_8, 10)
+    }
+
+    fn either(
+        random: &mut Random, faults: Faults, control: u8, dropping: u8, octets_7_and_8: [u8; 2], legal_length: usize,
+    ) -> Draft {
+        let [upper, lower] = address_octets(random, faults.has(2));
+        let control = if faults.has(3) {
+            another(random, |random| near(random, control), |other| !matches!(other & !POLL, VOICE | SIGNALLING))
+        } else {
+            control
+        };
+        let protocol =
+            if faults.has(5) { another(random, |random| near(random, 68), |&other| other != 68) } else { 68 };
+        let mut head = [
+            upper,
+            lower,
+            control,
+            protocol,
+            dropping,
+            stamp(random, faults.has(9)),
+            octets_7_and_8[0],
+            octets_7_and_8[1],
+        ];
+        // The bits that a writer sets to 0 and a reader ignores.
+        if random.one_in(2) {
+            head[0] |= random.octet() & 0x02;
+            head[2] |= random.octet() & POLL;
+            head[4] |= random.octet() & 0xCC;
+        }
+        let length = if faults.has(1) {
+            impossible_length(random)
+        } else if faults.has(8) {
+            let other_length = |random: &mut Random| {
+                let any = 10 + random.size_below(481);
+                random.pick(&[
+                    legal_length + 1,
+                    legal_length - 1,
+                    legal_length + 16,
+                    legal_length.wrapping_sub(16),
+                    490,
+                    any,
+                ])
+            };
+            another(random, other_length, |length| (10..=490).contains(length) && *length != legal_length)
+        } else {
+            legal_length
+        };
+        let check_damage =
+            if faults.has(4) { another(random, |random| random.number() as u16, |&damage| damage != 0) } else { 0 };
+        Draft { head, length, check_damage }
+    }
+
+    pub fn octets(&self, random: &mut Random) -> Vec<u8> {
+        let mut frame = random.octets(self.length);
+        let head_length = self.length.min(8);
+        frame[..head_length].copy_from_slice(&self.head[..head_length]);
+        if let Some(check_at) = self.length.checked_sub(2).filter(|at| *at >= 8) {
+            let covered = if self.head[2] & !POLL == VOICE { 8 } else { check_at };
+            let check = check_sequence(&frame[..covered]) ^ self.check_damage;
+            frame[check_at..].copy_from_slice(&check.to_le_bytes());
+        }
+        frame
+    }
+}
+
+/// Any frame or rubbish: right, with faults, damaged by a bit, cut, prolonged or random.
+pub fn frame(random: &mut Random) -> Vec<u8> {
+    let kind = random.below(10);
+    let faults = match kind {
+        0..=4 => Faults::among(random, &FRAME_FAULTS),
+        _ => Faults::NONE,
+    };
+    let draft = if random.one_in(4) { Draft::signalling(random, faults) } else { Draft::voice(random, faults) };
+    let mut frame = draft.octets(random);
+    match kind {
+        5 => {
+            let bit = random.size_below(8 * frame.len());
+            frame[bit / 8] ^= 1 << (bit % 8);
+        }
+        6 => {
+            let cut = random.size_below(frame.len());
+            frame.truncate(random.pick(&[cut, frame.len() - 1, frame.len() - 2]));
+        }
+        7 => {
+            let more = 1 + random.size_below(40);
+            let added = random.pick(&[1, 2, 16, 490 - frame.len(), 491 - frame.len(), more]);
+            frame.extend(random.octets(added));
+        }
+        8 => {
+            let length = if random.one_in(2) { random.size_below(14) } else { random.size_below(600) };
+            frame = random.octets(length);
+        }
+        _ => {}
+    }
+    frame
+}
+
+/// Draws until what is drawn will do.
+fn another<T>(random: &mut Random, draw: impl Fn(&mut Random) -> T, will_do: impl Fn(&T) -> bool) -> T {
+    loop {
+        let drawn = draw(random);
+        if will_do(&drawn) {
+            return drawn;
+        }
+    }
+}
+
+/// Any octet, or one that differs in a single bit.
+fn near(random: &mut Random, octet: u8) -> u8 {
+    if random.one_in(2) {
+        random.octet()
+    } else {
+        octet ^ 1 << random.below(8)
+    }
+}
+
+fn impossible_length(random: &mut Random) -> usize {
+    let (short, long) = (random.size_below(10), 491 + random.size_below(600));
+    if random.one_in(1000) {
+        1 << 20
+    } else {
+        random.pick(&[0, 8, 9, short, 491, 492, long])
+    }
+}
+
+fn address_octets(random: &mut Random, bad: bool) -> [u8; 2] {
+    let wrong_extension = bad && random.one_in(2);
+    let address = address(random, bad && !wrong_extension) & 0x1FFF;
+    let octets = [(address >> 7 << 2) as u8, (address << 1 | 1) as u8];
+    match wrong_extension {
+        true => {
+            random.pick(&[[octets[0] | 1, octets[1]], [octets[0], octets[1] & !1], [octets[0] | 1, octets[1] & !1]])
+        }
+        false => octets,
+    }
+}
+
+fn stamp(random: &mut Random, bad: bool) -> u8 {
+    let (right, wrong) = (random.octet_below(201), 201 + random.octet_below(55));
+    match bad {
+        true => random.pick(&[201, 255, wrong]),
+        false => random.pick(&[0, 1, 199, 200, right, right, right, right]),
+    }
+}
+
+// ---- Numbers ----
+
+/// An address; the bad ones stay bad in 13 bits.
+pub fn address(random: &mut Random, bad: bool) -> u16 {
+    let (right, low, high) =
+        (128 + random.below(7936) as u16, random.below(128) as u16, 8064 + random.below(128) as u16);
+    match bad {
+        true => random.pick(&[0, 127, 8064, 8191, low, high]),
+        false => random.pick(&[128, 8063, right, right]),
+    }
+}
+
+/// An outgoing address, of which the bad ones may have more than 13 bits.
+pub fn outgoing(random: &mut Random, bad: bool) -> u16 {
+    let wide = 8192 + random.below(57344) as u16;
+    if bad && random.one_in(2) {
+        random.pick(&[8192, 8192 + 128, 65535, wide])
+    } else {
+        address(random, bad)
+    }
+}
+
+/// Two clock readings, often with the clock rolling over between them.
+pub fn wait(random: &mut Random) -> (u32, u32) {
+    let (any, short) = (random.number() as u32, random.below(260) as u32);
+    let from = random.pick(&[0, 1, u32::MAX, u32::MAX - 5, any, any]);
+    let wait = random.pick(&[0, 1, 199, 200, 201, 255, 256, 257, 1 << 31, u32::MAX, any, short, short, short, short]);
+    (from, from.wrapping_add(wait))
+}
+
+/// A coding type; the bad ones are reserved or above 31, though their lowest five bits may be legal.
+pub fn coding(random: &mut Random, bad: bool) -> u8 {
+    match bad {
+        true if random.one_in(2) => 32 + random.pick(&LEGAL_CODINGS),
+        true => another(random, Random::octet, |number| Coding::of(*number).is_none()),
+        false => random.pick(&LEGAL_CODINGS),
+    }
+}
+
+/// A number up to `limit`, or one past it.
+pub fn up_to(random: &mut Random, limit: u8, bad: bool) -> u8 {
+    let (right, wrong) =
+        (random.octet_below(u16::from(limit) + 1), limit + 1 + random.octet_below(255 - u16::from(limit)));
+    match bad {
+        true => random.pick(&[limit + 1, 255, wrong]),
+        false => random.pick(&[0, limit, right, right]),
+    }
+}
+
+pub fn samples(random: &mut Random, sample_bits: u8, bad: bool) -> Vec<u8> {
+    let wrong_length = bad && (sample_bits == 8 || random.one_in(2));
+    let length = match wrong_length {
+        true => {
+            let any = random.size_below(128);
+            random.pick(&[0, 1, 127, 129, 256, any])
+        }
+        false => 128,
+    };
+    let mut samples = random.octets(length);
+    samples.iter_mut().for_each(|sample| *sample &= 255 >> (8 - sample_bits));
+    if bad && !wrong_length {
+        let at = random.pick(&[0, 1, 63, 126, 127]);
+        samples[at] = random.pick(&[1 << sample_bits, samples[at] | 1 << sample_bits, 255]);
+    }
+    samples
+}
+
+/// The length of a slice that must have room for `needed`: one short, exact, or longer.
+pub fn room(random: &mut Random, needed: usize, short: bool) -> usize {
+    let (less, more) = (random.size_below(needed.max(1)), needed + 1 + random.size_below(20));
+    match short {
+        true => random.pick(&[needed.saturating_sub(1), needed.saturating_sub(1), 0, less]),
+        false => random.pick(&[needed, needed, needed + 1, more]),
+    }
+}
+
+// ---- Play-out ----
+
+pub fn record(random: &mut Random, bad: bool) -> [u64; 6] {
+    let bad_fields = match (bad, random.one_in(4)) {
+        (false, _) => 0,
+        (true, false) => 1 << random.below(6),
+        (true, true) => 1 + random.below(63),
+    };
+    let bad = |field: u64| bad_fields >> field & 1 == 1;
+    let last_clock = {
+        let any = random.below(CLOCK_MAX);
+        match bad(2) {
+            true => random.pick(&[CLOCK_MAX + 1, CLOCK_MAX + 2, 1 << 63, u64::MAX]),
+            false => {
+                random.pick(&[0, 1, 1000, (1 << 32) - 1, 1 << 32, CLOCK_MAX - 20, CLOCK_MAX - 1, CLOCK_MAX, any, any])
+            }
+        }
+    };
+    let end = {
+        let (ahead, behind) = (random.below(456), random.below(1000));
+        match bad(3) {
+            true => random.pick(&[last_clock.saturating_add(456), last_clock.saturating_add(457), u64::MAX]),
+            false if random.one_in(4) => random.pick(&[0, last_clock.saturating_sub(behind)]),
+            false => last_clock.saturating_add(random.pick(&[0, 16, 439, 440, 454, 455, ahead, ahead, ahead])),
+        }
+    };
+    let mut small = |field, limit: u8| match bad(field) {
+        true => {
+            let any = random.number().max(u64::from(limit) + 1);
+            random.pick(&[u64::from(limit) + 1, u64::from(limit) + 2, 255, 256, 257, 1 << 32, u64::MAX, any])
+        }
+        false => up_to(random, limit, false).into(),
+    };
+    [small(0, 199), small(1, 15), last_clock, end, small(4, 1), small(5, 15)]
+}
+
+pub fn clock(random: &mut Random, record: &[u64; 6], bad: bool) -> u64 {
+    let &[_, _, last_clock, end, ..] = record;
+    if bad {
+        let past = random.pick(&[CLOCK_MAX + 1, CLOCK_MAX + 2, u64::MAX]);
+        return if last_clock == 0 { past } else { random.pick(&[last_clock - 1, 0, past]) };
+    }
+    let (soon, later, any) = (random.below(40), random.below(1000), random.number() >> 2);
+    let clock = random.pick(&[
+        last_clock,
+        last_clock.saturating_add(soon),
+        last_clock.saturating_add(soon),
+        last_clock.saturating_add(later),
+        end.saturating_sub(440),
+        end.saturating_sub(439),
+        end.saturating_sub(1),
+        end,
+        end.saturating_add(1),
+        (1 << 32) - 1,
+        CLOCK_MAX,
+        any,
+    ]);
+    clock.min(CLOCK_MAX).max(last_clock)
+}

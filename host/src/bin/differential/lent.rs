@@ -1,0 +1,97 @@
+//! What a call is lent, with a guard before and behind each slice, so that octets written
+//! outside it are seen as well.
+
+use crate::random::Random;
+use std::fmt::{Debug, Formatter};
+use std::ops::Range;
+
+const GUARD: usize = 4;
+
+#[derive(Clone, Default, PartialEq)]
+pub struct Guarded<T> {
+    whole: Vec<T>,
+    lent: Range<usize>,
+}
+
+/// Shows what is lent with its guards, and of the longest only the start.
+impl<T: Debug> Debug for Guarded<T> {
+    fn fmt(&self, formatter: &mut Formatter) -> std::fmt::Result {
+        const SHOWN: usize = 600;
+        write!(formatter, "{:?} of {:?}", self.lent, &self.whole[..self.whole.len().min(SHOWN)])
+    }
+}
+
+impl<T: Copy> Guarded<T> {
+    fn new(before: Vec<T>, lent: &[T], behind: Vec<T>) -> Guarded<T> {
+        let range = before.len()..before.len() + lent.len();
+        Guarded { whole: [&before, lent, &behind].concat(), lent: range }
+    }
+
+    pub fn part(&self) -> &[T] {
+        &self.whole[self.lent.clone()]
+    }
+
+    pub fn part_mut(&mut self) -> &mut [T] {
+        &mut self.whole[self.lent.clone()]
+    }
+}
+
+pub fn octets(random: &mut Random, lent: &[u8]) -> Guarded<u8> {
+    Guarded::new(random.octets(2 * GUARD), lent, random.octets(2 * GUARD))
+}
+
+pub fn numbers(random: &mut Random, lent: &[u64]) -> Guarded<u64> {
+    Guarded::new(random.numbers(GUARD), lent, random.numbers(GUARD))
+}
+
+/// Numbers to be written over.
+pub fn slots(random: &mut Random, length: usize) -> Guarded<u64> {
+    let unused = random.numbers(length);
+    numbers(random, &unused)
+}
+
+/// Octets to be written over.
+pub fn buffer(random: &mut Random, length: usize) -> Guarded<u8> {
+    let unused = random.octets(length);
+    octets(random, &unused)
+}
+
+pub fn levels(random: &mut Random, length: usize) -> Guarded<f64> {
+    let mut unused =
+        |length| random.octets(length).into_iter().map(|octet| f64::from(octet) + 0.25).collect::<Vec<f64>>();
+    let (before, lent, behind) = (unused(GUARD), unused(length), unused(GUARD));
+    Guarded::new(before, &lent, behind)
+}
+
+/// All that any call is lent. What a call only reads is here too, so that it is seen to be left alone.
+#[derive(Clone, Debug, Default)]
+pub struct Lent {
+    pub sseq: u8,
+    pub record: Guarded<u64>,
+    pub after: Guarded<u64>,
+    pub frame: Guarded<u8>,
+    pub noise: Guarded<u8>,
+    pub samples: Guarded<u8>,
+    pub out: Guarded<u8>,
+    pub answer: Guarded<u64>,
+    pub level: Guarded<f64>,
+}
+
+impl Lent {
+    /// The first thing that is not the same.
+    pub fn difference(&self, other: &Lent) -> Option<&'static str> {
+        let bits = |lent: &Lent| lent.level.whole.iter().map(|level| level.to_bits()).collect::<Vec<u64>>();
+        let same = [
+            ("sseq", self.sseq == other.sseq),
+            ("record", self.record == other.record),
+            ("after", self.after == other.after),
+            ("frame", self.frame == other.frame),
+            ("noise", self.noise == other.noise),
+            ("samples", self.samples == other.samples),
+            ("out", self.out == other.out),
+            ("answer", self.answer == other.answer),
+            ("level", bits(self) == bits(other)),
+        ];
+        same.iter().find(|(_, same)| !same).map(|(name, _)| *name)
+    }
+}

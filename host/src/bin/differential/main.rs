@@ -1,0 +1,467 @@
+//! Calls the proved library and the independent implementation with the same inputs and compares
+//! all that comes back: the number, the answers, and every octet lent and around it.
+//!
+//! `differential [INPUTS [SEED]]`: INPUTS for each call, and a tenth as many chains.
+
+mod inputs;
+mod lent;
+mod random;
+mod tally;
+
+use inputs::{Draft, Faults, FLAT_13, FLAT_14, FLAT_16};
+use lent::Lent;
+use pelgrant_host::card::Card;
+use pelgrant_host::document::Coding;
+use pelgrant_host::flat::Document;
+use pelgrant_host::Calls;
+use random::Random;
+use std::process::ExitCode;
+use tally::{Call, Tally};
+
+const INPUTS: u64 = 1_000_000;
+const SEED: u64 = 764;
+const SHOWN: u64 = 10;
+
+struct Run {
+    random: Random,
+    tally: Tally,
+    chains: u64,
+    different: u64,
+    /// The record that the last arrival left, so that whole bursts are played and not only single frames.
+    carried: [u64; 6],
+}
+
+/// What a call lent too little or of the wrong shape is refused by, if at all.
+fn flat(faults: Faults) -> Option<usize> {
+    [FLAT_16, FLAT_13, FLAT_14].into_iter().find(|number| faults.has(*number))
+}
+
+impl Run {
+    /// Gives the number and what was lent as document 01 leaves it.
+    fn compare(
+        &mut self, call: Call, flat: Option<usize>, numbers: &[u64], lent: Lent,
+        run: impl Fn(&dyn Calls, &mut Lent) -> u8,
+    ) -> (u8, Lent) {
+        let (mut right, mut found) = (lent.clone(), lent.clone());
+        let right_number = run(&Document, &mut right);
+        let found_number = run(&Card, &mut found);
+        self.tally.count(call, flat, right_number);
+        let difference = right.difference(&found);
+        if right_number != found_number || difference.is_some() {
+            self.differs(|| {
+                println!("different: {}, numbers {numbers:?}", call.name());
+                println!("  document 01 answers {right_number}, the card {found_number}");
+                if let Some(name) = difference {
+                    println!("  first of what is lent to differ: {name}");
+                }
+                println!("  lent {lent:?}\n  document 01 {right:?}\n  the card {found:?}");
+            });
+        }
+        (right_number, right)
+    }
+
+    fn differs(&mut self, show: impl FnOnce()) {
+        self.different += 1;
+        if self.different <= SHOWN {
+            show();
+        }
+    }
+
+    fn answer(&mut self, needed: usize, faults: Faults) -> lent::Guarded<u64> {
+        let length = inputs::room(&mut self.random, needed, faults.has(FLAT_16));
+        lent::slots(&mut self.random, length)
+    }
+
+    /// The answer slots and 128 samples to be written; where they are to be too short, either is or both.
+    fn answer_and_samples(&mut self, needed: usize, faults: Faults) -> (lent::Guarded<u64>, lent::Guarded<u8>) {
+        let random = &mut self.random;
+        let short = if faults.has(FLAT_16) { 1 + random.below(3) } else { 0 };
+        let slots = inputs::room(random, needed, short & 1 != 0);
+        let octets = inputs::room(random, 128, short & 2 != 0);
+        (lent::slots(random, slots), lent::buffer(random, octets))
+    }
+
+    fn send(&mut self) {
+        let random = &mut self.random;
+        let faults = Faults::among(random, Call::Send.order());
+        let sseq = inputs::up_to(random, 15, faults.has(14));
+        let inside = sseq != 0;
+        let step = match (faults.has(FLAT_13), inside != faults.has(13)) {
+            (true, _) => inputs::up_to(random, 2, true),
+            (false, true) => random.pick(&[1, 1, 2]),
+            (false, false) => 0,
+        };
+        let coding = inputs::coding(random, faults.has(6));
+        let noise = inputs::up_to(random, 15, faults.has(12));
+        let facts = Coding::of(coding).unwrap_or(Coding { sample_bits: 8, droppable: 0, resets: false });
+        let samples = inputs::samples(random, facts.sample_bits, faults.has(11));
+        let level = inputs::up_to(random, 3, faults.has(10));
+        let (from, to) = inputs::wait(random);
+        let address = inputs::outgoing(random, faults.has(15));
+        let length = facts.frame_length(level.min(facts.droppable));
+        let room = inputs::room(random, length, faults.has(16));
+        let (samples, out) = (lent::octets(random, &samples), lent::buffer(random, room));
+        let lent = Lent { sseq, samples, out, answer: self.answer(1, faults), ..Lent::default() };
+        let numbers = [step.into(), coding.into(), noise.into(), level.into(), from.into(), to.into(), address.into()];
+        self.compare(Call::Send, flat(faults), &numbers, lent, |calls, lent| {
+            calls.send(
+                &mut lent.sseq,
+                step,
+                coding,
+                noise,
+                lent.samples.part(),
+                level,
+                from,
+                to,
+                address,
+                lent.out.part_mut(),
+                lent.answer.part_mut(),
+            )
+        });
+    }
+
+    fn signal_write(&mut self) {
+        let random = &mut self.random;
+        let faults = Faults::among(random, Call::SignalWrite.order());
+        let (bad_bits, bad_na) = match (faults.has(12), random.below(3)) {
+            (false, _) => (false, false),
+            (true, which) => (which != 1, which != 0),
+        };
+        let (bits, na) = (inputs::up_to(random, 15, bad_bits), inputs::up_to(random, 1, bad_na));
+        let (from, to) = inputs::wait(random);
+        let address = inputs::outgoing(random, faults.has(15));
+        let room = inputs::room(random, 10, faults.has(16));
+        let out = lent::buffer(random, room);
+        let lent = Lent { out, answer: self.answer(1, faults), ..Lent::default() };
+        let numbers = [bits.into(), na.into(), from.into(), to.into(), address.into()];
+        self.compare(Call::SignalWrite, flat(faults), &numbers, lent, |calls, lent| {
+            calls.signal_write(bits, na, from, to, address, lent.out.part_mut(), lent.answer.part_mut())
+        });
+    }
+
+    fn forward(&mut self) {
+        let random = &mut self.random;
+        let faults = Faults::among(random, &[FLAT_16, 10, 15, 16]);
+        let frame = inputs::frame(random);
+        let level = inputs::up_to(random, 3, faults.has(10));
+        let (from, to) = inputs::wait(random);
+        let address = inputs::outgoing(random, faults.has(15));
+        let left = frame.get(4).map_or(0, |dropping| dropping & 3);
+        let length = frame.len().saturating_sub(16 * usize::from(left.min(level)));
+        let room = inputs::room(random, length.min(490), faults.has(16));
+        let (frame, out) = (lent::octets(random, &frame), lent::buffer(random, room));
+        let lent = Lent { frame, out, answer: self.answer(1, faults), ..Lent::default() };
+        let numbers = [level.into(), from.into(), to.into(), address.into()];
+        self.compare(Call::Forward, flat(faults), &numbers, lent, |calls, lent| {
+            calls.forward(lent.frame.part(), level, from, to, address, lent.out.part_mut(), lent.answer.part_mut())
+        });
+    }
+
+    fn read(&mut self) {
+        let faults = Faults::among(&mut self.random, &[FLAT_16, 0, 0, 0]);
+        let frame = inputs::frame(&mut self.random);
+        let frame = lent::octets(&mut self.random, &frame);
+        let (answer, samples) = self.answer_and_samples(2, faults);
+        let lent = Lent { frame, answer, samples, ..Lent::default() };
+        self.compare(Call::Read, flat(faults), &[], lent, |calls, lent| {
+            calls.read(lent.frame.part(), lent.answer.part_mut(), lent.samples.part_mut())
+        });
+    }
+
+    fn fresh(&mut self) {
+        let random = &mut self.random;
+        let faults = Faults::among(random, Call::Fresh.order());
+        let build_out = random.octet();
+        let length = if faults.has(FLAT_14) { random.pick(&[0, 1, 5, 7, 12]) } else { 6 };
+        let lent = Lent { record: lent::slots(random, length), ..Lent::default() };
+        self.compare(Call::Fresh, flat(faults), &[build_out.into()], lent, |calls, lent| {
+            calls.fresh(build_out, lent.record.part_mut())
+        });
+    }
+
+    /// A record, a clock and a frame that mostly suit each other.
+    fn arrival(&mut self, faults: Faults) -> (Vec<u64>, u64, Vec<u8>) {
+        let random = &mut self.random;
+        let carry_on = !faults.has(14) && self.carried[2] < inputs::CLOCK_MAX && random.one_in(2);
+        let record = if carry_on { self.carried } else { inputs::record(random, faults.has(14)) };
+        let clock = match carry_on && !faults.has(18) {
+            true => record[2] + random.below(33),
+            false => inputs::clock(random, &record, faults.has(18)),
+        };
+        let frame = if random.one_in(4) {
+            inputs::frame(random)
+        } else if faults.has(19) {
+            Draft::signalling(random, faults).octets(random)
+        } else {
+            let mut draft = Draft::voice(random, faults);
+            let build_out = record[0].min(199) as u8;
+            if !faults.has(9) {
+                let in_time = random.octet_below(u16::from(build_out) + 1);
+                let late = build_out + 1 + random.octet_below(200 - u16::from(build_out));
+                draft.head[5] = match faults.has(17) {
+                    true => random.pick(&[build_out + 1, 200, late]),
+                    false => random.pick(&[0, build_out, in_time, in_time]),
+                };
+            }
+            if !random.one_in(4) {
+                draft.head[7] = (record[1] as u8) << 4 | draft.head[7] & 15;
+            }
+            draft.octets(random)
+        };
+        let mut record = record.to_vec();
+        if faults.has(FLAT_14) {
+            record.resize(random.pick(&[0, 1, 5, 7, 12]), 0);
+        }
+        (record, clock, frame)
+    }
+
+    fn arrive(&mut self) {
+        let faults = Faults::among(&mut self.random, Call::Arrive.order());
+        let (record, clock, frame) = self.arrival(faults);
+        let (answer, samples) = self.answer_and_samples(4, faults);
+        let random = &mut self.random;
+        let (record, frame) = (lent::numbers(random, &record), lent::octets(random, &frame));
+        let lent = Lent { record, frame, answer, samples, ..Lent::default() };
+        let (number, after) = self.compare(Call::Arrive, flat(faults), &[clock], lent, |calls, lent| {
+            calls.arrive(
+                lent.record.part_mut(),
+                lent.frame.part(),
+                clock,
+                lent.answer.part_mut(),
+                lent.samples.part_mut(),
+            )
+        });
+        if number == 0 {
+            self.carried.copy_from_slice(after.record.part());
+        }
+    }
+
+    fn arrive_value(&mut self) {
+        let faults = Faults::among(&mut self.random, Call::ArriveValue.order());
+        let (record, clock, frame) = self.arrival(faults);
+        let random = &mut self.random;
+        // One of the three slices is too short, or more.
+        let short_after = faults.has(FLAT_16) && random.one_in(2);
+        let others = if short_after && random.one_in(2) { Faults::NONE } else { faults };
+        let after_length = inputs::room(random, 6, short_after);
+        let after = lent::slots(random, after_length);
+        let (record, frame) = (lent::numbers(random, &record), lent::octets(random, &frame));
+        let (answer, samples) = self.answer_and_samples(4, others);
+        let lent = Lent { record, after, frame, answer, samples, ..Lent::default() };
+        let (number, after) = self.compare(Call::ArriveValue, flat(faults), &[clock], lent, |calls, lent| {
+            calls.arrive_value(
+                lent.record.part(),
+                lent.frame.part(),
+                clock,
+                lent.after.part_mut(),
+                lent.answer.part_mut(),
+                lent.samples.part_mut(),
+            )
+        });
+        if number == 0 {
+            self.carried.copy_from_slice(&after.after.part()[..6]);
+        }
+    }
+
+    fn signal_read(&mut self) {
+        let faults = Faults::among(&mut self.random, Call::SignalRead.order());
+        let random = &mut self.random;
+        let build_out = inputs::up_to(random, 199, faults.has(14));
+        let frame = if random.one_in(4) {
+            inputs::frame(random)
+        } else if faults.has(19) {
+            Draft::voice(random, faults).octets(random)
+        } else {
+            let mut draft = Draft::signalling(random, faults);
+            if !faults.has(9) && !faults.has(14) {
+                let in_time = random.octet_below(u16::from(build_out) + 1);
+                draft.head[5] = match faults.has(17) {
+                    true => random.pick(&[build_out + 1, 200]),
+                    false => random.pick(&[build_out, in_time]),
+                };
+            }
+            draft.octets(random)
+        };
+        let frame = lent::octets(random, &frame);
+        let lent = Lent { frame, answer: self.answer(3, faults), ..Lent::default() };
+        self.compare(Call::SignalRead, flat(faults), &[build_out.into()], lent, |calls, lent| {
+            calls.signal_read(build_out, lent.frame.part(), lent.answer.part_mut())
+        });
+    }
+
+    fn fill(&mut self) {
+        let random = &mut self.random;
+        let faults = Faults::among(random, Call::Fill.order());
+        let lengths = [0, 1, 127, 128, 128, 128, 129, 300];
+        let (last_length, noise_length) = (random.pick(&lengths), random.pick(&lengths));
+        let any = random.octet();
+        let m_last = random.pick(&[0, 1, 1, 2, 255, any]);
+        let (last, noise) = (lent::buffer(random, last_length), lent::buffer(random, noise_length));
+        let (answer, out) = self.answer_and_samples(1, faults);
+        let lent = Lent { frame: last, noise, out, answer, ..Lent::default() };
+        self.compare(Call::Fill, flat(faults), &[m_last.into()], lent, |calls, lent| {
+            calls.fill(lent.frame.part(), lent.noise.part(), m_last, lent.out.part_mut(), lent.answer.part_mut())
+        });
+    }
+
+    fn noise_level(&mut self) {
+        let random = &mut self.random;
+        let faults = Faults::among(random, Call::NoiseLevel.order());
+        let code = inputs::up_to(random, 15, faults.has(12));
+        let short = if faults.has(FLAT_16) { 1 + random.below(3) } else { 0 };
+        let (slots, levels) = (inputs::room(random, 1, short & 1 != 0), inputs::room(random, 1, short & 2 != 0));
+        let (answer, level) = (lent::slots(random, slots), lent::levels(random, levels));
+        let lent = Lent { answer, level, ..Lent::default() };
+        self.compare(Call::NoiseLevel, flat(faults), &[code.into()], lent, |calls, lent| {
+            calls.noise_level(code, lent.answer.part_mut(), lent.level.part_mut())
+        });
+    }
+
+    fn link(&mut self) {
+        let faults = Faults::among(&mut self.random, &[FLAT_16, 0, 0, 0]);
+        let frame = inputs::frame(&mut self.random);
+        let frame = lent::octets(&mut self.random, &frame);
+        let lent = Lent { frame, answer: self.answer(2, faults), ..Lent::default() };
+        self.compare(Call::Link, flat(faults), &[], lent, |calls, lent| {
+            calls.link(lent.frame.part(), lent.answer.part_mut())
+        });
+    }
+
+    fn taken(&mut self) {
+        let faults = Faults::among(&mut self.random, &[FLAT_16, 0, 0, 0]);
+        let frame = inputs::frame(&mut self.random);
+        let frame = lent::octets(&mut self.random, &frame);
+        let lent = Lent { frame, answer: self.answer(3, faults), ..Lent::default() };
+        self.compare(Call::Taken, flat(faults), &[], lent, |calls, lent| {
+            calls.taken(lent.frame.part(), lent.answer.part_mut())
+        });
+    }
+
+    fn one_input(&mut self, call: Call) {
+        match call {
+            Call::Send => self.send(),
+            Call::SignalWrite => self.signal_write(),
+            Call::Forward => self.forward(),
+            Call::Read => self.read(),
+            Call::Fresh => self.fresh(),
+            Call::Arrive => self.arrive(),
+            Call::ArriveValue => self.arrive_value(),
+            Call::SignalRead => self.signal_read(),
+            Call::Fill => self.fill(),
+            Call::NoiseLevel => self.noise_level(),
+            Call::Link => self.link(),
+            Call::Taken => self.taken(),
+        }
+    }
+
+    /// Demand 3 through the compiled code: a chain of nodes sends what one node sends, and the
+    /// samples read at its end are the originals without their lowest bits.
+    fn chain(&mut self) {
+        let random = &mut self.random;
+        let number = inputs::coding(random, false);
+        let coding = Coding::of(number).unwrap();
+        let samples = inputs::samples(random, coding.sample_bits, false);
+        let (mut sseq, step) = random.pick(&[(0, 0), (1, 1), (15, 1), (7, 2)]);
+        // Half of the chains are gentle, so that neither the waits nor the levels run to their end at once.
+        let gentle = random.one_in(2);
+        let origin = Hop::draw(random, gentle);
+        let nodes: Vec<Hop> = (0..=random.below(8)).map(|_| Hop::draw(random, gentle)).collect();
+        let levels: u8 = nodes.iter().map(|node| node.level).sum();
+        let waits: u64 = nodes.iter().map(|node| u64::from(node.to.wrapping_sub(node.from))).sum();
+        let address = nodes[nodes.len() - 1].address;
+        let one_node = Hop { level: levels.min(3), from: 0, to: waits.min(200) as u32, address };
+
+        let Hop { level, from, to, address } = origin;
+        let first = written(|out, length| {
+            Card.send(&mut sseq, step, number, 9, &samples, level, from, to, address, out, length)
+        })
+        .unwrap_or_default();
+        let chained = nodes.iter().try_fold(first.clone(), |frame, node| node.forward(&frame));
+        let single = one_node.forward(&first);
+
+        let dropped = coding.droppable.min(origin.level + levels);
+        let kept: Vec<u8> = samples.iter().map(|sample| sample >> dropped << dropped).collect();
+        let (mut answer, mut heard) = ([0; 2], [0; 128]);
+        let read = chained.as_ref().map(|frame| Card.read(frame, &mut answer, &mut heard));
+        let right = chained == single
+            && read == Some(0)
+            && answer == [coding.sample_bits.into(), dropped.into()]
+            && heard[..] == kept;
+        self.chains += 1;
+        if !right {
+            self.differs(|| {
+                println!("different: a chain, coding {number}, origin {origin:?}, nodes {nodes:?}");
+                println!("  chain {chained:?}\n  one node {single:?}\n  read {read:?} {answer:?} {heard:?}");
+            });
+        }
+    }
+}
+
+/// How a frame leaves the origin or a node of a chain.
+#[derive(Clone, Copy, Debug)]
+struct Hop {
+    level: u8,
+    from: u32,
+    to: u32,
+    address: u16,
+}
+
+impl Hop {
+    fn draw(random: &mut Random, gentle: bool) -> Hop {
+        let level = if gentle && !random.one_in(4) { 0 } else { random.octet_below(4) };
+        let (from, to) = inputs::wait(random);
+        let to = if gentle { from.wrapping_add(random.below(40) as u32) } else { to };
+        Hop { level, from, to, address: inputs::address(random, false) }
+    }
+
+    fn forward(self, frame: &[u8]) -> Option<Vec<u8>> {
+        let Hop { level, from, to, address } = self;
+        written(|out, length| Card.forward(frame, level, from, to, address, out, length))
+    }
+}
+
+/// The frame that a call writes, unless it is refused.
+fn written(call: impl FnOnce(&mut [u8], &mut [u64]) -> u8) -> Option<Vec<u8>> {
+    let (mut out, mut length) = ([0; 138], [0]);
+    let number = call(&mut out, &mut length);
+    if number == 0 {
+        out.get(..length[0] as usize).map(<[u8]>::to_vec)
+    } else {
+        None
+    }
+}
+
+fn argument(place: usize, default: u64) -> u64 {
+    std::env::args().nth(place).map_or(default, |text| text.parse().expect("a number"))
+}
+
+fn main() -> ExitCode {
+    let (inputs, seed) = (argument(1, INPUTS), argument(2, SEED));
+    let mut run = Run {
+        random: Random::from_seed(seed),
+        tally: Tally::default(),
+        chains: 0,
+        different: 0,
+        carried: [100, 0, 0, 0, 0, 0],
+    };
+    for call in Call::ALL {
+        (0..inputs).for_each(|_| run.one_input(call));
+    }
+    (0..inputs / 10).for_each(|_| run.chain());
+
+    println!("Inputs by call and refusal (seed {seed}; . where document 01 allows none)");
+    run.tally.print();
+    println!("Chains of 1 to 8 nodes against one node: {}", run.chains);
+    let amiss = run.tally.amiss();
+    amiss.iter().for_each(|pair| println!("amiss: {pair}"));
+    if !amiss.is_empty() {
+        println!("amiss: {} pairs of call and number", amiss.len());
+    }
+    let failed = run.different + amiss.len() as u64;
+    println!("host: {} compared, {failed} different", run.tally.total() + run.chains);
+    if failed == 0 {
+        ExitCode::SUCCESS
+    } else {
+        ExitCode::FAILURE
+    }
+}

@@ -1,0 +1,661 @@
+//! Document 01 in plain Rust, written from the document alone, as the yardstick of the proved
+//! library: what it answers is right if this answers the same, and it is as fast as this or not.
+
+use std::ops::RangeInclusive;
+
+pub const SAMPLES: usize = 128;
+const BLOCK: usize = 16;
+const HEADER: usize = 8;
+const CHECK: usize = 2;
+
+const FRAME_SIZES: RangeInclusive<usize> = 10..=490;
+const ADDRESSES: RangeInclusive<u16> = 128..=8063;
+const VOICE: u8 = 239;
+const SIGNALLING: u8 = 3;
+const POLL: u8 = 0x10;
+const COMMAND_RESPONSE: u8 = 0x02;
+const PROTOCOL: u8 = 68;
+const MORE: u8 = 0x80;
+
+const STAMP_MAX: u8 = 200;
+const LEVEL_MAX: u8 = 3;
+const FOUR_BITS: u8 = 15;
+const BUILD_OUT_MAX: u8 = 199;
+const CLOCK_MAX: u64 = 1 << 62;
+const PACKET_MS: u64 = 16;
+/// A frame is due at most this long after the clock, so `end` is at most 16 ms more.
+const AHEAD_MAX: u64 = 439;
+
+/// The refusal numbers of document 01.
+#[derive(Clone, Copy, Debug, PartialEq, Eq)]
+#[repr(u8)]
+pub enum Refusal {
+    FrameSize = 1,
+    Address = 2,
+    Control = 3,
+    Check = 4,
+    Protocol = 5,
+    Coding = 6,
+    Dropping = 7,
+    Length = 8,
+    Stamp = 9,
+    Level = 10,
+    Samples = 11,
+    FourBits = 12,
+    Burst = 13,
+    Record = 14,
+    Outgoing = 15,
+    Buffer = 16,
+    Late = 17,
+    Clock = 18,
+    OtherKind = 19,
+    Early = 20,
+}
+
+use Refusal::*;
+
+fn refuse_if(applies: bool, refusal: Refusal) -> Result<(), Refusal> {
+    if applies {
+        Err(refusal)
+    } else {
+        Ok(())
+    }
+}
+
+// ---- Check sequence ----
+
+const CHECK_TABLE: [u16; 256] = {
+    const GENERATOR_REFLECTED: u16 = 0x8408;
+    let mut table = [0; 256];
+    let mut octet = 0;
+    while octet < 256 {
+        let mut register = octet as u16;
+        let mut bit = 0;
+        while bit < 8 {
+            let carry = register & 1;
+            register = (register >> 1) ^ (carry * GENERATOR_REFLECTED);
+            bit += 1;
+        }
+        table[octet] = register;
+        octet += 1;
+    }
+    table
+};
+
+pub fn check_sequence(octets: &[u8]) -> u16 {
+    !octets
+        .iter()
+        .fold(0xFFFF, |register: u16, octet| (register >> 8) ^ CHECK_TABLE[usize::from(register as u8 ^ octet)])
+}
+
+/// Writes the check of octets 1 to 8 into the last two. A signalling frame has no others,
+/// so this serves both kinds.
+fn seal(frame: &mut [u8]) {
+    let check = check_sequence(&frame[..HEADER]);
+    let at = frame.len() - CHECK;
+    frame[at..].copy_from_slice(&check.to_le_bytes());
+}
+
+// ---- Coding types ----
+
+#[derive(Clone, Copy, Debug, PartialEq, Eq)]
+pub struct Coding {
+    pub sample_bits: u8,
+    pub droppable: u8,
+    pub resets: bool,
+}
+
+impl Coding {
+    pub const fn of(number: u8) -> Option<Coding> {
+        let (sample_bits, droppable, resets) = match number {
+            0 | 8 | 9 => (8, 0, false),
+            1..=7 => (number, 0, false),
+            10..=13 => (number - 8, 0, true),
+            20 => (4, 2, true),
+            21 => (5, 3, true),
+            24 => (8, 2, true),
+            _ => return None,
+        };
+        Some(Coding { sample_bits, droppable, resets })
+    }
+
+    pub const fn frame_length(self, dropped: u8) -> usize {
+        HEADER + BLOCK * (self.sample_bits - dropped) as usize + CHECK
+    }
+}
+
+// ---- Blocks ----
+
+/// Turns eight octets as an 8 by 8 square of bits: bit j of octet i becomes bit i of octet j.
+fn transpose(octets: [u8; 8]) -> [u8; 8] {
+    let mut square = u64::from_le_bytes(octets);
+    for (shift, mask) in [(7, 0x00AA_00AA_00AA_00AA), (14, 0x0000_CCCC_0000_CCCC), (28, 0xF0F0_F0F0)] {
+        let swapped = (square ^ (square >> shift)) & mask;
+        square ^= swapped ^ (swapped << shift);
+    }
+    square.to_le_bytes()
+}
+
+/// A block for each sample bit, from the lowest, whether or not the frame carries it.
+type Planes = [[u8; BLOCK]; 8];
+
+/// Fills as many blocks as the voice field has room for, from the highest sample bit down.
+fn pack(samples: &[u8], sample_bits: u8, voice_field: &mut [u8]) {
+    let mut planes: Planes = [[0; BLOCK]; 8];
+    for (column, eight) in samples.chunks_exact(8).enumerate() {
+        let octets = transpose(eight.try_into().unwrap());
+        for (plane, octet) in planes.iter_mut().zip(octets) {
+            plane[column] = octet;
+        }
+    }
+    let from_highest = planes[..sample_bits.into()].iter().rev();
+    for (block, plane) in voice_field.chunks_exact_mut(BLOCK).zip(from_highest) {
+        block.copy_from_slice(plane);
+    }
+}
+
+/// The bits of blocks that the voice field no longer has stay zero.
+fn unpack(voice_field: &[u8], sample_bits: u8) -> [u8; SAMPLES] {
+    let mut planes: Planes = [[0; BLOCK]; 8];
+    let from_highest = planes[..sample_bits.into()].iter_mut().rev();
+    for (block, plane) in voice_field.chunks_exact(BLOCK).zip(from_highest) {
+        plane.copy_from_slice(block);
+    }
+    let mut samples = [0; SAMPLES];
+    for (column, eight) in samples.chunks_exact_mut(8).enumerate() {
+        eight.copy_from_slice(&transpose(planes.map(|plane| plane[column])));
+    }
+    samples
+}
+
+// ---- Reading a frame ----
+
+#[derive(Clone, Copy, Debug, PartialEq, Eq)]
+pub enum Kind {
+    Voice,
+    Signalling,
+}
+
+fn address_of(frame: &[u8]) -> u16 {
+    u16::from(frame[0] >> 2) << 7 | u16::from(frame[1] >> 1)
+}
+
+fn stamp_of(frame: &[u8]) -> u8 {
+    frame[5]
+}
+
+fn more_of(frame: &[u8]) -> bool {
+    frame[6] & MORE != 0
+}
+
+fn sequence_of(frame: &[u8]) -> u8 {
+    frame[7] >> 4
+}
+
+/// Refusals 1 to 5: what every reader asks of a frame of either kind.
+fn link_kind(frame: &[u8]) -> Result<Kind, Refusal> {
+    refuse_if(!FRAME_SIZES.contains(&frame.len()), FrameSize)?;
+    let extension_bits = (frame[0] & 1, frame[1] & 1);
+    refuse_if(extension_bits != (0, 1) || !ADDRESSES.contains(&address_of(frame)), Address)?;
+    let (covered, check) = frame.split_at(frame.len() - CHECK);
+    let (kind, covered) = match frame[2] & !POLL {
+        VOICE => (Kind::Voice, &covered[..HEADER]),
+        SIGNALLING => (Kind::Signalling, covered),
+        _ => return Err(Control),
+    };
+    refuse_if(check_sequence(covered).to_le_bytes() != check, Check)?;
+    refuse_if(frame[3] != PROTOCOL, Protocol)?;
+    Ok(kind)
+}
+
+fn link_of_kind(frame: &[u8], wanted: Kind) -> Result<(), Refusal> {
+    refuse_if(link_kind(frame)? != wanted, OtherKind)
+}
+
+/// The blocks that may still be dropped, and those that were.
+#[derive(Clone, Copy)]
+struct Blocks {
+    coding: Coding,
+    left: u8,
+    dropped: u8,
+}
+
+/// Refusals 6 to 9 of a voice frame.
+fn voice_blocks(frame: &[u8]) -> Result<Blocks, Refusal> {
+    let coding = Coding::of(frame[6] & 31).ok_or(Refusal::Coding)?;
+    let (at_first, left) = (frame[4] >> 4 & 3, frame[4] & 3);
+    refuse_if(at_first != coding.droppable || left > at_first, Dropping)?;
+    let dropped = at_first - left;
+    refuse_if(frame.len() != coding.frame_length(dropped), Length)?;
+    refuse_if(stamp_of(frame) > STAMP_MAX, Stamp)?;
+    Ok(Blocks { coding, left, dropped })
+}
+
+/// Refusals 7 to 9 of a signalling frame.
+fn signalling_form(frame: &[u8]) -> Result<(), Refusal> {
+    refuse_if(frame[4] & 0x33 != 0, Dropping)?;
+    refuse_if(frame.len() != HEADER + CHECK, Length)?;
+    refuse_if(stamp_of(frame) > STAMP_MAX, Stamp)
+}
+
+/// What a node asks of a frame: its kind and how many blocks may still be dropped.
+fn node_form(frame: &[u8]) -> Result<(Kind, u8), Refusal> {
+    let kind = link_kind(frame)?;
+    let left = match kind {
+        Kind::Voice => voice_blocks(frame)?.left,
+        Kind::Signalling => signalling_form(frame).map(|()| 0)?,
+    };
+    Ok((kind, left))
+}
+
+#[derive(Clone, Debug, PartialEq, Eq)]
+pub struct Voice {
+    pub sample_bits: u8,
+    pub dropped: u8,
+    pub samples: [u8; SAMPLES],
+}
+
+fn voice_of(frame: &[u8], blocks: Blocks) -> Voice {
+    let Blocks { coding, dropped, .. } = blocks;
+    let voice_field = &frame[HEADER..frame.len() - CHECK];
+    Voice { sample_bits: coding.sample_bits, dropped, samples: unpack(voice_field, coding.sample_bits) }
+}
+
+pub fn read(frame: &[u8]) -> Result<Voice, Refusal> {
+    link_of_kind(frame, Kind::Voice)?;
+    Ok(voice_of(frame, voice_blocks(frame)?))
+}
+
+pub fn link(frame: &[u8]) -> Result<(Kind, u16), Refusal> {
+    Ok((link_kind(frame)?, address_of(frame)))
+}
+
+#[derive(Clone, Copy, Debug, PartialEq, Eq)]
+pub struct Taken {
+    pub kind: Kind,
+    pub length: usize,
+    pub left: u8,
+}
+
+/// What a node finds in a frame before it sends it on.
+pub fn taken(frame: &[u8]) -> Result<Taken, Refusal> {
+    let (kind, left) = node_form(frame)?;
+    Ok(Taken { kind, length: frame.len(), left })
+}
+
+// ---- Origin and node ----
+
+#[derive(Clone, Copy, Debug, PartialEq, Eq)]
+pub enum Step {
+    Start,
+    Data,
+    Stop,
+}
+
+/// How a frame leaves: it waited from one clock reading to the other, and goes to `address`.
+#[derive(Clone, Copy, Debug)]
+pub struct Departure {
+    pub from: u32,
+    pub to: u32,
+    pub address: u16,
+}
+
+impl Departure {
+    fn stamp(&self, old: u8) -> u8 {
+        let wait = self.to.wrapping_sub(self.from);
+        wait.saturating_add(u32::from(old)).min(u32::from(STAMP_MAX)) as u8
+    }
+
+    fn may_leave(&self) -> Result<(), Refusal> {
+        refuse_if(!ADDRESSES.contains(&self.address), Outgoing)
+    }
+
+    fn address_octets(&self) -> [u8; 2] {
+        [(self.address >> 7 << 2) as u8, (self.address << 1 | 1) as u8]
+    }
+}
+
+fn next_sequence(sequence: u8) -> u8 {
+    if sequence == FOUR_BITS {
+        1
+    } else {
+        sequence + 1
+    }
+}
+
+/// What the origin makes a packet of.
+#[derive(Clone, Copy, Debug)]
+pub struct Packet<'a> {
+    pub step: Step,
+    pub coding: u8,
+    pub noise: u8,
+    pub samples: &'a [u8],
+}
+
+pub fn send(
+    sseq: &mut u8, packet: &Packet, level: u8, departure: &Departure, out: &mut [u8],
+) -> Result<usize, Refusal> {
+    let &Packet { step, coding: number, noise, samples } = packet;
+    refuse_if(*sseq > FOUR_BITS, Record)?;
+    refuse_if((step == Step::Start) != (*sseq == 0), Burst)?;
+    let coding = Coding::of(number).ok_or(Refusal::Coding)?;
+    refuse_if(noise > FOUR_BITS, FourBits)?;
+    let used_bits = samples.iter().fold(0, |bits, sample| bits | u16::from(*sample));
+    refuse_if(samples.len() != SAMPLES || used_bits >> coding.sample_bits != 0, Samples)?;
+    refuse_if(level > LEVEL_MAX, Level)?;
+    departure.may_leave()?;
+    let dropped = level.min(coding.droppable);
+    let frame = out.get_mut(..coding.frame_length(dropped)).ok_or(Buffer)?;
+
+    let more = if step == Step::Stop { 0 } else { MORE };
+    let [upper, lower] = departure.address_octets();
+    let dropping = coding.droppable << 4 | (coding.droppable - dropped);
+    frame[..HEADER].copy_from_slice(&[
+        upper,
+        lower,
+        VOICE,
+        PROTOCOL,
+        dropping,
+        departure.stamp(0),
+        more | number,
+        *sseq << 4 | noise,
+    ]);
+    let voice_end = frame.len() - CHECK;
+    pack(samples, coding.sample_bits, &mut frame[HEADER..voice_end]);
+    seal(frame);
+    *sseq = if step == Step::Stop { 0 } else { next_sequence(*sseq) };
+    Ok(frame.len())
+}
+
+pub fn signal_write(bits: u8, na: u8, departure: &Departure, out: &mut [u8]) -> Result<usize, Refusal> {
+    refuse_if(bits > FOUR_BITS || na > 1, FourBits)?;
+    departure.may_leave()?;
+    let frame = out.get_mut(..HEADER + CHECK).ok_or(Buffer)?;
+    let [upper, lower] = departure.address_octets();
+    frame[..HEADER].copy_from_slice(&[upper, lower, SIGNALLING, PROTOCOL, 0, departure.stamp(0), na, bits]);
+    seal(frame);
+    Ok(frame.len())
+}
+
+pub fn forward(frame: &[u8], level: u8, departure: &Departure, out: &mut [u8]) -> Result<usize, Refusal> {
+    refuse_if(level > LEVEL_MAX, Level)?;
+    departure.may_leave()?;
+    let (_, left) = node_form(frame)?;
+    let dropped = level.min(left);
+    let length = frame.len() - BLOCK * usize::from(dropped);
+    let out = out.get_mut(..length).ok_or(Buffer)?;
+
+    let kept = length - CHECK;
+    out[..kept].copy_from_slice(&frame[..kept]);
+    let [upper, lower] = departure.address_octets();
+    out[0] = upper | frame[0] & COMMAND_RESPONSE;
+    out[1] = lower;
+    out[4] -= dropped;
+    out[5] = departure.stamp(stamp_of(frame));
+    seal(out);
+    Ok(length)
+}
+
+// ---- Play-out ----
+
+#[derive(Clone, Copy, Debug, PartialEq, Eq)]
+pub struct Endpoint {
+    pub build_out: u8,
+    pub rseq: u8,
+    pub last_clock: u64,
+    pub end: u64,
+    pub m_last: u8,
+    pub last_noise: u8,
+}
+
+impl Endpoint {
+    pub const fn fresh(build_out: u8) -> Endpoint {
+        Endpoint { build_out, rseq: 0, last_clock: 0, end: 0, m_last: 0, last_noise: 0 }
+    }
+
+    fn in_range(&self) -> bool {
+        self.build_out <= BUILD_OUT_MAX
+            && self.rseq <= FOUR_BITS
+            && self.last_clock <= CLOCK_MAX
+            && self.end <= self.last_clock + AHEAD_MAX + PACKET_MS
+            && self.m_last <= 1
+            && self.last_noise <= FOUR_BITS
+    }
+}
+
+#[derive(Clone, Debug, PartialEq, Eq)]
+pub struct Scheduled {
+    pub due: u64,
+    pub reset: bool,
+    pub voice: Voice,
+}
+
+pub fn arrive(endpoint: &mut Endpoint, frame: &[u8], clock: u64) -> Result<Scheduled, Refusal> {
+    refuse_if(!endpoint.in_range(), Record)?;
+    refuse_if(clock < endpoint.last_clock || clock > CLOCK_MAX, Clock)?;
+    link_of_kind(frame, Kind::Voice)?;
+    let blocks = voice_blocks(frame)?;
+
+    let (sequence, stamp) = (sequence_of(frame), stamp_of(frame));
+    let follows = sequence != 0 && sequence == endpoint.rseq;
+    let Some(hold) = endpoint.build_out.checked_sub(stamp) else { return Err(Late) };
+    refuse_if(follows && clock > endpoint.end, Late)?;
+    let due = if follows { endpoint.end } else { endpoint.end.max(clock + u64::from(hold)) };
+    refuse_if(due > clock + AHEAD_MAX, Early)?;
+
+    let more = more_of(frame);
+    *endpoint = Endpoint {
+        build_out: endpoint.build_out,
+        rseq: if more { next_sequence(sequence) } else { 0 },
+        last_clock: clock,
+        end: due + PACKET_MS,
+        m_last: more.into(),
+        last_noise: frame[7] & FOUR_BITS,
+    };
+    let reset = sequence == 0 && blocks.coding.resets;
+    Ok(Scheduled { due, reset, voice: voice_of(frame, blocks) })
+}
+
+#[derive(Clone, Copy, Debug, PartialEq, Eq)]
+pub struct Signals {
+    pub bits: u8,
+    pub na: u8,
+    pub hold: u8,
+}
+
+pub fn signal_read(build_out: u8, frame: &[u8]) -> Result<Signals, Refusal> {
+    refuse_if(build_out > BUILD_OUT_MAX, Record)?;
+    link_of_kind(frame, Kind::Signalling)?;
+    signalling_form(frame)?;
+    let hold = build_out.checked_sub(stamp_of(frame)).ok_or(Late)?;
+    Ok(Signals { bits: frame[7] & FOUR_BITS, na: frame[6] & 1, hold })
+}
+
+/// What is played where no packet came: 128 octets, or none where either slice is too short.
+pub fn fill<'a>(last: &'a [u8], noise: &'a [u8], m_last: u8) -> &'a [u8] {
+    match (last.get(..SAMPLES), noise.get(..SAMPLES)) {
+        (Some(last), Some(_)) if m_last == 1 => last,
+        (Some(_), Some(noise)) => noise,
+        _ => &[],
+    }
+}
+
+/// The level in dBmc0; none where the line is idle.
+pub fn noise_level(code: u8) -> Result<Option<f64>, Refusal> {
+    const TENTHS: [u16; 15] = [166, 197, 226, 249, 269, 290, 310, 328, 346, 362, 379, 397, 416, 438, 466];
+    match code {
+        0 => Ok(None),
+        1..=15 => Ok(Some(f64::from(TENTHS[usize::from(code) - 1]) / 10.0)),
+        _ => Err(FourBits),
+    }
+}
+
+#[cfg(test)]
+mod tests {
+    use super::*;
+
+    const AT_ONCE: Departure = Departure { from: 0, to: 0, address: 128 };
+
+    fn waited(wait: u32) -> Departure {
+        Departure { to: wait, ..AT_ONCE }
+    }
+
+    fn start(coding: u8, samples: &[u8], level: u8, departure: Departure) -> Result<Vec<u8>, Refusal> {
+        let mut out = [0; 138];
+        let packet = Packet { step: Step::Start, coding, noise: 3, samples };
+        send(&mut 0, &packet, level, &departure, &mut out).map(|length| out[..length].to_vec())
+    }
+
+    fn pass(frame: &[u8], level: u8, departure: Departure) -> Result<Vec<u8>, Refusal> {
+        let mut out = [0; 138];
+        forward(frame, level, &departure, &mut out).map(|length| out[..length].to_vec())
+    }
+
+    /// A voice frame of type 1 with the more bit set.
+    fn voice_frame(sequence: u8, stamp: u8) -> Vec<u8> {
+        let mut frame = vec![0; 26];
+        frame[..HEADER].copy_from_slice(&[4, 1, 239, 68, 0, stamp, 0x81, sequence << 4]);
+        seal(&mut frame);
+        frame
+    }
+
+    #[test]
+    fn published_check_vectors() {
+        assert_eq!(check_sequence(b"123456789"), 0x906E);
+        assert_eq!(check_sequence(b""), 0);
+        // The worked examples of ISO 3309: SABM to address 3 and UA from address 1.
+        assert_eq!(check_sequence(&[0x03, 0x3F]).to_le_bytes(), [0x5B, 0xEC]);
+        assert_eq!(check_sequence(&[0x01, 0x73]).to_le_bytes(), [0x83, 0x57]);
+        // Octets and check together leave the remainder that the standard names.
+        assert_eq!(!check_sequence(&[0x03, 0x3F, 0x5B, 0xEC]), 0xF0B8);
+    }
+
+    #[test]
+    fn coding_table() {
+        let bits = |number| Coding::of(number).map_or(0, |coding| coding.sample_bits);
+        let table: Vec<u8> = (0..=32).map(bits).collect();
+        assert_eq!(table[..14], [8, 1, 2, 3, 4, 5, 6, 7, 8, 8, 2, 3, 4, 5]);
+        assert_eq!(table[14..], [0, 0, 0, 0, 0, 0, 4, 5, 0, 0, 8, 0, 0, 0, 0, 0, 0, 0, 0]);
+        assert_eq!((Coding::of(21).unwrap().frame_length(0), Coding::of(21).unwrap().frame_length(3)), (90, 42));
+    }
+
+    #[test]
+    fn blocks_are_where_the_document_puts_them() {
+        for number in 0..32 {
+            let Some(coding) = Coding::of(number) else { continue };
+            let s = usize::from(coding.sample_bits);
+            let samples: Vec<u8> = (0..128u32).map(|n| (n * 167 + 29) as u8 & (255 >> (8 - s))).collect();
+            let frame = start(number, &samples, 0, AT_ONCE).unwrap();
+            for b in 0..s {
+                for n in 1..=128 {
+                    let octet = 9 + 16 * b + (n - 1) / 8;
+                    let bit = frame[octet - 1] >> ((n - 1) % 8) & 1;
+                    assert_eq!(bit, samples[n - 1] >> (s - b - 1) & 1, "type {number}, block {b}, sample {n}");
+                }
+            }
+            assert_eq!(read(&frame).unwrap().samples, samples[..]);
+        }
+    }
+
+    #[test]
+    fn origin_and_node_examples() {
+        let samples = [31; 128];
+        let frame = start(21, &samples, 0, waited(7)).unwrap();
+        assert_eq!((&frame[..8], frame.len()), (&[4, 1, 239, 68, 51, 7, 149, 3][..], 90));
+        let one = pass(&frame, 1, AT_ONCE).unwrap();
+        assert_eq!((one[4], one.len()), (50, 74));
+        let three = pass(&frame, 3, AT_ONCE).unwrap();
+        assert_eq!((three[4], three.len()), (48, 42));
+        assert_eq!(read(&three).unwrap(), Voice { sample_bits: 5, dropped: 3, samples: [24; 128] });
+
+        let mut few = [0; 128];
+        few[..3].copy_from_slice(&[2, 1, 3]);
+        let frame = start(2, &few, 0, AT_ONCE).unwrap();
+        assert_eq!((frame[8], frame[24]), (5, 6));
+    }
+
+    #[test]
+    fn address_examples() {
+        let to = |address| start(1, &[0; 128], 0, Departure { address, ..AT_ONCE });
+        assert_eq!(to(8063).unwrap()[..2], [248, 255]);
+        assert_eq!(to(8064), Err(Outgoing));
+        assert_eq!(to(127), Err(Outgoing));
+    }
+
+    #[test]
+    fn stamp_examples() {
+        let rolled_over = Departure { from: 4294967290, to: 4, address: 128 };
+        assert_eq!(rolled_over.stamp(0), 10);
+        assert_eq!((waited(1).stamp(199), waited(1).stamp(200), waited(256).stamp(0)), (200, 200, 200));
+        assert_eq!(Departure { from: 1, to: 0, address: 128 }.stamp(200), 200);
+    }
+
+    #[test]
+    fn play_out_examples() {
+        let mut endpoint = Endpoint::fresh(100);
+        let mut due = |clock, sequence, stamp| {
+            arrive(&mut endpoint, &voice_frame(sequence, stamp), clock).map(|scheduled| scheduled.due)
+        };
+        assert_eq!(due(1000, 0, 30), Ok(1070));
+        assert_eq!(due(1010, 1, 24), Ok(1086));
+        assert_eq!(due(1050, 3, 20), Ok(1130));
+        let before = endpoint;
+        assert_eq!(arrive(&mut endpoint, &voice_frame(4, 100), 1147), Err(Late));
+        assert_eq!(endpoint, before);
+        assert_eq!(arrive(&mut endpoint, &voice_frame(4, 100), 1146).unwrap().due, 1146);
+    }
+
+    #[test]
+    fn late_examples() {
+        let plays = |build_out, stamp| arrive(&mut Endpoint::fresh(build_out), &voice_frame(0, stamp), 0).is_ok();
+        assert!(plays(100, 100) && !plays(100, 101));
+        assert!((0..=199).all(|build_out| !plays(build_out, 200)));
+    }
+
+    #[test]
+    fn sequence_goes_round_without_zero() {
+        let mut sseq = 0;
+        let mut sent = Vec::new();
+        for step in std::iter::once(Step::Start).chain([Step::Data; 16]).chain([Step::Stop]) {
+            let mut out = [0; 26];
+            let packet = Packet { step, coding: 1, noise: 0, samples: &[0; 128] };
+            send(&mut sseq, &packet, 0, &AT_ONCE, &mut out).unwrap();
+            sent.push(sequence_of(&out));
+        }
+        assert_eq!(sent, [0, 1, 2, 3, 4, 5, 6, 7, 8, 9, 10, 11, 12, 13, 14, 15, 1, 2]);
+        assert_eq!(sseq, 0);
+    }
+
+    #[test]
+    fn signalling_example() {
+        let mut out = [0; 12];
+        let departure = Departure { address: 129, ..AT_ONCE };
+        assert_eq!(signal_write(10, 0, &departure, &mut out), Ok(10));
+        assert_eq!((&out[..8], &out[10..]), (&[4, 3, 3, 68, 0, 0, 0, 10][..], &[0, 0][..]));
+        assert_eq!(signal_read(70, &out[..10]), Ok(Signals { bits: 10, na: 0, hold: 70 }));
+        assert_eq!(read(&out[..10]), Err(OtherKind));
+    }
+
+    #[test]
+    fn fill_and_noise() {
+        let (last, noise) = ([1; 130], [2; 128]);
+        assert_eq!(fill(&last, &noise, 1), [1; 128]);
+        assert_eq!(fill(&last, &noise, 2), [2; 128]);
+        assert_eq!(fill(&last, &noise[1..], 1), []);
+        assert_eq!(fill(&last[3..], &noise, 0), []);
+        assert_eq!([0, 1, 15].map(noise_level), [Ok(None), Ok(Some(16.6)), Ok(Some(46.6))]);
+        assert_eq!(noise_level(16), Err(FourBits));
+    }
+
+    /// The walk that document 01 prints.
+    #[test]
+    fn walk_example() {
+        let facts = |frame: &[u8]| (frame.len(), stamp_of(frame), frame[4] & 3);
+        let first = start(21, &[31; 128], 0, waited(7)).unwrap();
+        let second = pass(&first, 1, waited(150)).unwrap();
+        let third = pass(&second, 1, waited(60)).unwrap();
+        assert_eq!([facts(&first), facts(&second), facts(&third)], [(90, 7, 3), (74, 157, 2), (58, 200, 1)]);
+        assert_eq!(pass(&third, 4, AT_ONCE), Err(Level));
+        assert_eq!(arrive(&mut Endpoint::fresh(100), &third, 1000), Err(Late));
+    }
+}
