@@ -5,6 +5,7 @@ use mathlib.Core.Bool.{false}
 use mathlib.Core.List.{List, [], _∷_}
 use lib.ListN.{length, take}
 use Rattle.refusals.specs.Refusals.{addressBad}
+use Rattle.coding.specs.Coding.{droppableBits}
 use Rattle.onward.specs.Onward.{waitOf, onward}
 use Rattle.node.specs.Node.{forwardAnswer, forwardBuffer}
 use Rattle.origin.specs.Send.{sendAnswer, sendBuffer}
@@ -80,17 +81,21 @@ unfoldable pub waits : List Node → ℕ
 waits [] = 0
 waits (n ∷ ns) = waitOf (n .from) (n .to) + waits ns
 
--- the last address
-unfoldable pub lastAddress : Node → List Node → ℕ
-lastAddress n [] = n .address
-lastAddress n (m ∷ ns) = lastAddress m ns
+-- the last address: the origin's where there is no node
+unfoldable pub lastAddress : ℕ → List Node → ℕ
+lastAddress a [] = a
+lastAddress a (n ∷ ns) = lastAddress (n .address) ns
 
--- the one node: the waits added and stopped at 200, the levels added and stopped at 3, the last address
-unfoldable pub one : Node → List Node → List ℕ → Node
-one n ns out = record {
-  level = min 3 (levels (n ∷ ns));
+-- the single node: the waits added and stopped at 200, the levels added and stopped at 3, the last address
+unfoldable pub single : Origin → List Node → List ℕ → Node
+single o ns out = record {
+  level = min 3 (levels ns);
   from = 0;
-  to = min 200 (waits (n ∷ ns));
-  address = lastAddress n ns;
+  to = min 200 (waits ns);
+  address = lastAddress (o .address) ns;
   out = out;
 }
+
+-- how many bits are lost: the lesser of the coding's droppable bits and the sum of all levels, the origin's included
+abbrev pub lost : Origin → List Node → ℕ
+lost o ns = min (droppableBits (o .coding)) (o .level + levels ns)

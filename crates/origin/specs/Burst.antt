@@ -3,7 +3,8 @@ use Prim.Native.Nat.{ℕ}
 use mathlib.Core.Bool.{Bool, not}
 use lib.Dec.{ltb, eqb}
 use Rattle.octets.specs.Sequence.{nextNumber}
-use Rattle.refusals.specs.Refusals.{refuse}
+use mathlib.Core.List.{List, [], _∷_}
+use Rattle.refusals.specs.Refusals.{refuse, ifTaken}
 use Rattle.origin.specs.declared.Step.{Step}
 use Rattle.origin.specs.declared.Step.the-variants.{Start, Data, Stop}
 
@@ -34,3 +35,8 @@ abbrev pub sseqSet : Step → ℕ → ℕ
 sseqSet Start sseq = 1
 sseqSet Data sseq = nextNumber sseq
 sseqSet Stop sseq = 0
+
+-- SSEQ after a list of steps, of which those out of turn are refused and leave it
+unfoldable pub sseqAfter : ℕ → List Step → ℕ
+sseqAfter sseq [] = sseq
+sseqAfter sseq (step ∷ steps) = sseqAfter (ifTaken (refusal13 step sseq) (sseqSet step sseq) sseq) steps

@@ -1,0 +1,40 @@
+-- An arrival is the decision on the frame's fields: the laws of the decision, over the octets.
+use Prim.Native.Nat.{ℕ, _+_, _≤_}
+use mathlib.Core.Path.{_≡_}
+use mathlib.Core.List.{List}
+use native.Mathlib.Omega.{arith}
+use Rattle.frame.specs.Fields.{stamp, moreBit, sequence, noise}
+use Rattle.frame.specs.Orders.{voiceRefusal}
+use Rattle.endpoint.specs.declared.Endpoint.{Endpoint}
+use Rattle.endpoint.specs.Play.{refusal14}
+use Rattle.endpoint.specs.Arrival.{frameDecision, arrivalBy, arrivalOf}
+use Rattle.endpoint.proofs.PlayLaws.{decided-ranged, decided-near, decided-ahead, decided-apart, decided-kept, decided-readable}
+
+module _ (e : Endpoint) (f : List ℕ) (clock : ℕ) where
+  pub arrival-ranged : refusal14 e ≡ 0 → refusal14 (arrivalOf e f clock .after) ≡ 0
+  unfolding arrivalOf arrivalBy frameDecision
+  arrival-ranged h = decided-ranged e clock (voiceRefusal f) (stamp f) (sequence f) (moreBit f) (noise f) h (omega arith) (omega arith)
+
+  -- due is at most clock + 439
+  pub arrival-near : arrivalOf e f clock .answer .due ≤ clock + 439
+  unfolding arrivalOf arrivalBy frameDecision
+  arrival-near = decided-near e clock (voiceRefusal f) (stamp f) (sequence f) (moreBit f) (noise f)
+
+  -- nor is a frame due in the past
+  pub arrival-ahead : arrivalOf e f clock .answer .refusal ≡ 0 → clock ≤ arrivalOf e f clock .answer .due
+  unfolding arrivalOf arrivalBy frameDecision
+  arrival-ahead = decided-ahead e clock (voiceRefusal f) (stamp f) (sequence f) (moreBit f) (noise f)
+
+  pub arrival-apart : arrivalOf e f clock .answer .refusal ≡ 0
+      → (e .end ≤ arrivalOf e f clock .answer .due) × (arrivalOf e f clock .after .end ≡ arrivalOf e f clock .answer .due + 16)
+  unfolding arrivalOf arrivalBy frameDecision
+  arrival-apart = decided-apart e clock (voiceRefusal f) (stamp f) (sequence f) (moreBit f) (noise f)
+
+  pub arrival-kept : (arrivalOf e f clock .answer .refusal ≡ 0 → ⊥) → arrivalOf e f clock .after ≡ e
+  unfolding arrivalOf arrivalBy frameDecision
+  arrival-kept = decided-kept e clock (voiceRefusal f) (stamp f) (sequence f) (moreBit f) (noise f)
+
+  -- what is scheduled can be read
+  pub arrival-readable : frameDecision e f clock .refusal ≡ 0 → voiceRefusal f ≡ 0
+  unfolding frameDecision
+  arrival-readable = decided-readable e clock (voiceRefusal f) (stamp f) (sequence f) (moreBit f) (noise f)

@@ -1,0 +1,7 @@
+pub mod ArrivalLaws
+pub mod CallsLaws
+pub mod FillLaws
+pub mod IgnoredLaws
+pub mod OneOutcome
+pub mod PlayLaws
+pub mod ReadLaws

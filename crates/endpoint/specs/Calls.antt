@@ -1,0 +1,31 @@
+-- Document 01, "Play-out", over any list of arrival calls on one record: the record that they leave, and when their frames are due.
+use Prim.Native.Nat.{ℕ, _+_, _≤_}
+use mathlib.Core.List.{List, [], _∷_}
+use Rattle.refusals.specs.Refusals.{ifTaken}
+use Rattle.endpoint.specs.declared.Endpoint.{Endpoint}
+use Rattle.endpoint.specs.declared.Arrived.{Arrived}
+use Rattle.endpoint.specs.Arrival.{arrivalOf}
+
+pub record Call : Type 0 where
+  pub frame : List ℕ
+  pub clock : ℕ
+
+abbrev pub arrivalAt : Endpoint → Call → Arrived
+arrivalAt e c = arrivalOf e (c .frame) (c .clock)
+
+unfoldable pub recordAfter : Endpoint → List Call → Endpoint
+recordAfter e [] = e
+recordAfter e (c ∷ cs) = recordAfter (arrivalAt e c .after) cs
+
+-- the due times of the frames that were scheduled, in the order of the calls
+unfoldable pub dueTimes : Endpoint → List Call → List ℕ
+dueTimes e [] = []
+dueTimes e (c ∷ cs) =
+    ifTaken (arrivalAt e c .answer .refusal)
+    (arrivalAt e c .answer .due ∷ dueTimes (arrivalAt e c .after) cs)
+    (dueTimes (arrivalAt e c .after) cs)
+
+-- packets of 16 ms that never overlap, none before `from`
+unfoldable pub Apart : ℕ → List ℕ → Type 0
+Apart from [] = Unit {0}
+Apart from (due ∷ dues) = (from ≤ due) × Apart (due + 16) dues

@@ -1,0 +1,6 @@
+pub mod Arrival
+pub mod Calls
+pub mod Fill
+pub mod Play
+pub mod Read
+pub mod Signal

@@ -1,0 +1,4 @@
+pub mod BurstLaws
+pub mod SendLaws
+pub mod SignalLaws
+pub mod OneOutcome
