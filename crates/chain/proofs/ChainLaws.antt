@@ -24,7 +24,7 @@ use Rattle.node.specs.Node.{forwardRefusal, forwardAnswer, forwardBuffer}
 use Rattle.node.proofs.ForwardLaws.{Forwarded, not-refused}
 use Rattle.origin.specs.Burst.{sequenceSent, moreSent}
 use Rattle.origin.specs.Send.{madeHead, made, sendWritten, sendRefusal, sendAnswer, sendBuffer}
-use Rattle.origin.proofs.SendLaws.{Taken, send-taken, written-field, sent-length, sent-M, sent-C, sent-voice, sent-stamp, sent-passes, sent-coding, sent-more, sent-sequence, sent-noise}
+use Rattle.origin.proofs.SendLaws.{SendTaken, send-taken, written-field, sent-length, sent-M, sent-C, sent-voice, sent-stamp, sent-passes, sent-coding, sent-more, sent-sequence, sent-noise}
 use Rattle.endpoint.specs.declared.Heard.{Heard}
 use Rattle.endpoint.specs.Read.{samplesOf, heardOf, readAnswer}
 use Rattle.chain.specs.Chain.{Origin, refusedAt, sent, Node, refusedBy, handed, chain, AllTake, Ready, AllReady, levels, waits, lastAddress, single, lost}
@@ -118,7 +118,7 @@ module _ (o : Origin) (z : refusedAt o ≡ 0) where
   unfolding refusedAt sendAnswer
   not-refused-at = sym (answered _ (at o (o .level) (waitOf (o .from) (o .to)) (o .address))) ∙ z
 
-  taken : Taken (o .sseq) (o .step) (o .coding) (o .noise) (o .samples) (o .level) (waitOf (o .from) (o .to)) (o .address) (length (o .out))
+  taken : SendTaken (o .sseq) (o .step) (o .coding) (o .noise) (o .samples) (o .level) (waitOf (o .from) (o .to)) (o .address) (length (o .out))
   taken =
       send-taken (o .sseq) (o .step) (o .coding) (o .noise) (o .samples) (o .level) (waitOf (o .from) (o .to)) (o .address) (length (o .out)) not-refused-at
 

@@ -1,14 +1,15 @@
 -- An arrival is the decision on the frame's fields: the laws of the decision, over the octets.
 use Prim.Native.Nat.{ℕ, _+_, _≤_}
-use mathlib.Core.Path.{_≡_}
+use mathlib.Core.Path.{_≡_, sym, ap, _∙_}
 use mathlib.Core.List.{List}
 use native.Mathlib.Omega.{arith}
 use Rattle.frame.specs.Fields.{stamp, moreBit, sequence, noise}
 use Rattle.frame.specs.Orders.{voiceRefusal}
 use Rattle.endpoint.specs.declared.Endpoint.{Endpoint}
-use Rattle.endpoint.specs.Play.{refusal14}
+use Rattle.endpoint.specs.Play.{refusal14, dueAt, playRefusal, afterScheduled}
+use Rattle.endpoint.specs.Read.{heardOf, readAnswer}
 use Rattle.endpoint.specs.Arrival.{frameDecision, arrivalBy, arrivalOf}
-use Rattle.endpoint.proofs.PlayLaws.{decided-ranged, decided-near, decided-ahead, decided-apart, decided-kept, decided-readable}
+use Rattle.endpoint.proofs.PlayLaws.{decided-number, decided-scheduled, decided-ranged, decided-near, decided-ahead, decided-apart, decided-kept, decided-readable}
 
 module _ (e : Endpoint) (f : List ℕ) (clock : ℕ) where
   pub arrival-ranged : refusal14 e ≡ 0 → refusal14 (arrivalOf e f clock .after) ≡ 0
@@ -38,3 +39,26 @@ module _ (e : Endpoint) (f : List ℕ) (clock : ℕ) where
   pub arrival-readable : frameDecision e f clock .refusal ≡ 0 → voiceRefusal f ≡ 0
   unfolding frameDecision
   arrival-readable = decided-readable e clock (voiceRefusal f) (stamp f) (sequence f) (moreBit f) (noise f)
+
+  -- the number of the order, and where there is none the due time and the record after
+  pub arrival-number : arrivalOf e f clock .answer .refusal ≡ playRefusal e clock (voiceRefusal f) (stamp f) (sequence f)
+  unfolding arrivalOf arrivalBy frameDecision
+  arrival-number = decided-number e clock (voiceRefusal f) (stamp f) (sequence f) (moreBit f) (noise f)
+
+  pub arrival-scheduled : playRefusal e clock (voiceRefusal f) (stamp f) (sequence f) ≡ 0
+      → (arrivalOf e f clock .answer .due ≡ dueAt e clock (stamp f) (sequence f))
+      × (arrivalOf e f clock .after ≡ afterScheduled e clock (sequence f) (moreBit f) (noise f) (dueAt e clock (stamp f) (sequence f)))
+  unfolding arrivalOf arrivalBy frameDecision
+  arrival-scheduled z =
+      let d = decided-scheduled e clock (voiceRefusal f) (stamp f) (sequence f) (moreBit f) (noise f) z in
+      (ap (λ x. x .due) d, ap (λ x. x .after) d)
+
+  -- S, the number dropped and the samples of a scheduled frame are those of the reader
+  pub arrival-reads : arrivalOf e f clock .answer .refusal ≡ 0
+      → (arrivalOf e f clock .answer .s ≡ readAnswer f .s)
+      × (arrivalOf e f clock .answer .dropped ≡ readAnswer f .dropped)
+      × (arrivalOf e f clock .answer .samples ≡ readAnswer f .samples)
+  unfolding arrivalOf arrivalBy readAnswer
+  arrival-reads z =
+      let n : frameDecision e f clock .refusal ≡ voiceRefusal f = z ∙ sym (arrival-readable z) in
+      (ap (λ k. heardOf k f .s) n, ap (λ k. heardOf k f .dropped) n, ap (λ k. heardOf k f .samples) n)

@@ -1,17 +1,17 @@
 -- What an operator lives by, over any list of arrival calls on a record that began fresh.
 use Prim.Native.Nat.{ℕ, zero, suc, _+_, _≤_}
-use mathlib.Core.Path.{_≡_, refl, sym, ap, subst, _∙_}
+use mathlib.Core.Path.{_≡_, refl, ap, subst, _∙_}
 use mathlib.Core.List.{List, [], _∷_}
 use native.Mathlib.Omega.{arith}
 use Rattle.refusals.specs.Refusals.{_orElse_, ifTaken}
 use Rattle.frame.specs.Orders.{voiceRefusal}
-use Rattle.frame.specs.Fields.{stamp, moreBit, sequence, noise}
+use Rattle.frame.specs.Fields.{stamp, sequence}
 use Rattle.endpoint.specs.declared.Endpoint.{Endpoint}
 use Rattle.endpoint.specs.Play.{freshRecord, refusal14, refusal17, refusal18, refusal20}
-use Rattle.endpoint.specs.Arrival.{frameDecision, arrivalBy, arrivalOf}
+use Rattle.endpoint.specs.Arrival.{arrivalOf}
 use Rattle.endpoint.specs.Calls.{Call, arrivalAt, recordAfter, dueTimes, Apart}
-use Rattle.endpoint.proofs.PlayLaws.{fresh-ranged, play-ranged, decided-number}
-use Rattle.endpoint.proofs.ArrivalLaws.{arrival-ranged, arrival-apart, arrival-kept}
+use Rattle.endpoint.proofs.PlayLaws.{fresh-ranged, play-ranged}
+use Rattle.endpoint.proofs.ArrivalLaws.{arrival-number, arrival-ranged, arrival-apart, arrival-kept}
 
 -- the record that calls leave is one that the next call accepts
 pub calls-ranged : (e : Endpoint) (cs : List Call) → refusal14 e ≡ 0 → refusal14 (recordAfter e cs) ≡ 0
@@ -46,7 +46,6 @@ fresh-calls-apart b cs = calls-apart (freshRecord b) cs
 pub fresh-never-14 : (b : ℕ) (cs : List Call) (f : List ℕ) (clock : ℕ) → b ≤ 199 → (e : Endpoint) → e ≡ recordAfter (freshRecord b) cs
     → arrivalOf e f clock .answer .refusal
     ≡ refusal18 e clock orElse voiceRefusal f orElse refusal17 e clock (stamp f) (sequence f) orElse refusal20 e clock (stamp f) (sequence f)
-unfolding arrivalOf arrivalBy frameDecision
 fresh-never-14 b cs f clock h e is =
-    decided-number e clock (voiceRefusal f) (stamp f) (sequence f) (moreBit f) (noise f)
+    arrival-number e f clock
     ∙ play-ranged e clock (voiceRefusal f) (stamp f) (sequence f) (ap refusal14 is ∙ fresh-calls-ranged b cs h)

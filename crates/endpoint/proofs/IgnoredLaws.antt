@@ -1,15 +1,14 @@
 -- Reserved, C/R and poll bits are ignored: two frames that agree in their fields, whatever the other bits of octets 1 to 8, are heard alike.
-use Prim.Native.Nat.{ℕ, zero, suc, _+_, _-_, _*_, _%_, _≤_}
-use mathlib.Core.Path.{_≡_, refl, sym, ap, ap₂, _∙_}
-use mathlib.Core.Bool.{Bool, true, false, cond}
+use Prim.Native.Nat.{ℕ, zero, suc, _-_, _%_}
+use mathlib.Core.Path.{_≡_, refl, sym, ap, _∙_}
+use mathlib.Core.Bool.{Bool, true, false}
 use mathlib.Core.List.{List}
 use native.Mathlib.Omega.{arith}
 use lib.ListN.{length, take, drop}
 use Rattle.octets.specs.Octets.{octet}
-use Rattle.refusals.specs.Refusals.{_orElse_}
 use Rattle.blocks.proofs.BlocksLaws.{samples-alike}
 use Rattle.frame.specs.Fields.{address, control, isVoice, fieldM, fieldC, stamp, moreBit, coding, sequence, noise, na, signalBits}
-use Rattle.frame.specs.Orders.{refusal4, refusal19, linkRefusal, layoutRefusal, voiceRefusal, signalRefusal}
+use Rattle.frame.specs.Orders.{refusal4, linkRefusal, layoutRefusal, voiceRefusal, signalRefusal}
 use Rattle.endpoint.specs.declared.Endpoint.{Endpoint}
 use Rattle.endpoint.specs.declared.Decision.{Decision}
 use Rattle.endpoint.specs.Read.{bitsOf, droppedOf, samplesOf, heardOf, readAnswer}

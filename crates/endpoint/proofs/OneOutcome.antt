@@ -1,6 +1,6 @@
 -- Of each public promise, two outcomes that it allows are equal; and the arrival by value and the arrival in place are one promise.
 use Prim.Native.Nat.{ℕ}
-use mathlib.Core.Path.{_≡_, refl, sym, ap, _∙_}
+use mathlib.Core.Path.{_≡_}
 use mathlib.Core.List.{List}
 use contract.Lifetimes.{Lfts}
 use Rattle.octets.proofs.BoolLaws.{one-outcome}

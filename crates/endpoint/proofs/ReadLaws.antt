@@ -1,6 +1,6 @@
 -- What the voice reader's frame is known to hold, where it passes.
-use Prim.Native.Nat.{ℕ, zero, suc, _+_, _*_, _-_, _≤_}
-use mathlib.Core.Path.{_≡_, refl, sym}
+use Prim.Native.Nat.{ℕ, _+_, _*_, _-_, _≤_}
+use mathlib.Core.Path.{_≡_}
 use mathlib.Core.Bool.{Bool, true, false, _&&_, cond}
 use mathlib.Core.List.{List}
 use native.Mathlib.Omega.{arith}
@@ -13,8 +13,7 @@ use Rattle.coding.proofs.CodingLaws.{s-le-8}
 use Rattle.frame.specs.Fields.{isVoice, coding, sequence}
 use Rattle.frame.specs.Orders.{voiceRefusal}
 use Rattle.frame.proofs.FrameLaws.{voice-taken}
-use Rattle.endpoint.specs.declared.Heard.{Heard}
-use Rattle.endpoint.specs.Read.{bitsOf, droppedOf, samplesOf, heardOf}
+use Rattle.endpoint.specs.Read.{bitsOf, droppedOf, samplesOf, heardOf, readAnswer}
 use Rattle.endpoint.specs.Arrival.{resetOf}
 
 chosen : (voice none : Bool) (n m k : ℕ) → voice ≡ true → (voice && none) ≡ false → n ≡ cond voice (cond none 0 m) k → n ≡ m
@@ -36,6 +35,10 @@ blocks-there f h = (omega (arith, voice-size f h), omega arith, s-le-8 (coding f
 pub heard-taken : (n : ℕ) (f : List ℕ) → n ≡ 0 → heardOf n f ≡ record { refusal = 0; s = bitsOf f; dropped = droppedOf f; samples = samplesOf f }
 unfolding heardOf
 heard-taken n f z = rw z
+
+pub read-taken : (f : List ℕ) → voiceRefusal f ≡ 0 → readAnswer f ≡ record { refusal = 0; s = bitsOf f; dropped = droppedOf f; samples = samplesOf f }
+unfolding readAnswer
+read-taken f z = heard-taken (voiceRefusal f) f z
 
 pub reset-refused : (n : ℕ) (f : List ℕ) → (n ≡ 0 → ⊥) → resetOf n f ≡ 0
 unfolding resetOf

@@ -1,24 +1,23 @@
 -- Laws of the voice frame (t is the coding type, n the noise): what is known of a call that is not refused, how long its frame is, that it passes every check, and its fields.
 use Prim.Native.Nat.{ℕ, _+_, _-_, _*_, _/_, _%_, min, _≤_, _<_}
 use mathlib.Core.Path.{_≡_, refl, ap, ap₂, sym, _∙_}
-use mathlib.Core.Bool.{Bool, true, false, not, _||_}
+use mathlib.Core.Bool.{Bool, true, false}
 use mathlib.Core.List.{List, [], _∷_, _++_}
 use native.Mathlib.Omega.{arith}
 use lib.Dec.{ltb}
 use lib.ListN.{length, take, drop, length-append}
 use lib.Seq.{take-append-le, take-at, drop-at, drop-drop}
 use borrow.Author.Tests.{ltb-false, le-ltb, not-false}
-use Rattle.octets.specs.Octets.{octet}
 use Rattle.octets.proofs.BoolLaws.{or-false}
-use Rattle.refusals.specs.Refusals.{_orElse_, refuse, addressBad, refusal10, refusal12, refusal15, refusal16}
+use Rattle.refusals.specs.Refusals.{_orElse_, addressBad, refusal10, refusal12, refusal15, refusal16}
 use Rattle.refusals.proofs.RefusalLaws.{orElse-zero, refuse-zero, in-range, done-is}
 use Rattle.fcs.specs.Fcs.{fcsOctets}
 use Rattle.coding.specs.Coding.{sampleBits, droppableBits, frameLength, reserved, refusal6}
-use Rattle.coding.proofs.CodingLaws.{s-le-8, d-le-3, d-le-s, not-reserved}
+use Rattle.coding.proofs.CodingLaws.{s-le-8, d-le-3, not-reserved}
 use Rattle.blocks.specs.Blocks.{field, packed, samplesFit, refusal11}
 use Rattle.blocks.proofs.BlocksLaws.{length-field, field-prefix}
 use Rattle.frame.specs.Fields.{isVoice, fieldM, fieldC, stamp, moreBit, coding, sequence, noise}
-use Rattle.frame.proofs.FrameLaws.{Passes, Linked, LaidOut}
+use Rattle.frame.proofs.FrameLaws.{Passes}
 use Rattle.onward.specs.Onward.{stampAfter, dropped, onwardHead, onwardField, framed, onward}
 use Rattle.onward.specs.Sent.{sentAnswer, sentBuffer}
 use Rattle.onward.proofs.OnwardLaws.{framed-length, framed-good, onward-length, onward-C, onward-M, closed, sealed-behind}
@@ -32,14 +31,14 @@ pub orElse-is : {r a b x y : ℕ} → r ≡ a orElse b → a ≡ x → b ≡ y �
 orElse-is e p q = e ∙ ap₂ _orElse_ p q
 
 -- what a call answers and leaves once its frame is written
-module _ (q r n : ℕ) (f out x : List ℕ) (e : r ≡ q) (z : r ≡ 0) (en : n ≡ length f) where
+module _ (q r n : ℕ) (f : List ℕ) (e : r ≡ q) (z : r ≡ 0) (en : n ≡ length f) where
   pub answer-done : record { refusal = 0; length = n } ≡ sentAnswer q f
   unfolding sentAnswer
   answer-done = done-is q r _ _ _ e z (cc)
 
-  pub buffer-done : x ≡ f ++ drop n out → x ≡ sentBuffer q f out
+  pub buffer-done : (out x : List ℕ) → x ≡ f ++ drop n out → x ≡ sentBuffer q f out
   unfolding sentBuffer
-  buffer-done ex = done-is q r _ _ _ e z (cc)
+  buffer-done out x ex = done-is q r _ _ _ e z (cc)
 
 -- the blocks packed behind octets 1 to 8, and the rest as it came
 packed-in : (H O x xs : List ℕ) (S k : ℕ) → length H ≡ 8 → x ≡ H ++ drop 8 O → packed x xs S k ≡ H ++ field xs S k ++ drop (8 + 16 * k) O
@@ -248,17 +247,17 @@ module _ (sseq : ℕ) (step : Step) (t n : ℕ) (samples : List ℕ) (level wait
 -- ---- the frame sent passes every check of a node, and its fields
 
 module _ (sseq : ℕ) (step : Step) (t n : ℕ) (samples : List ℕ) (level wait addr : ℕ) where
-  abbrev origin : List ℕ
-  origin = made addr t (moreSent step) (sequenceSent step sseq) n samples
+  abbrev just-made : List ℕ
+  just-made = made addr t (moreSent step) (sequenceSent step sseq) n samples
 
   pub sent-M : fieldM (sendWritten sseq step t n samples level wait addr) ≡ droppableBits t
   unfolding sendWritten
-  sent-M = onward-M level wait addr origin ∙ made-M addr t (moreSent step) (sequenceSent step sseq) n samples
+  sent-M = onward-M level wait addr just-made ∙ made-M addr t (moreSent step) (sequenceSent step sseq) n samples
 
   pub sent-C : fieldC (sendWritten sseq step t n samples level wait addr) ≡ droppableBits t - min (droppableBits t) level
   unfolding sendWritten
   sent-C =
-      onward-C level wait addr origin
+      onward-C level wait addr just-made
       ∙ ap₂ (λ (c d : ℕ). c - d) (made-C addr t (moreSent step) (sequenceSent step sseq) n samples) (made-dropped addr t (moreSent step) (sequenceSent step sseq) n samples level)
 
   pub sent-voice : isVoice (sendWritten sseq step t n samples level wait addr) ≡ true
@@ -269,26 +268,22 @@ module _ (sseq : ℕ) (step : Step) (t n : ℕ) (samples : List ℕ) (level wait
   unfolding sendWritten onward onwardHead made madeHead framed
   sent-stamp = refl
 
-  module _ (room : ℕ) (h : sendRefusal sseq step t n samples level wait addr room ≡ 0) where
-    k : SendTaken sseq step t n samples level wait addr room
-    k = send-taken sseq step t n samples level wait addr room h
+  pub sent-passes : addressBad addr ≡ false → reserved t ≡ false → Passes (sendWritten sseq step t n samples level wait addr)
+  unfolding sendWritten
+  sent-passes inside known = closed level wait addr origin (made-passes addr t (moreSent step) (sequenceSent step sseq) n samples inside known) inside
 
-    pub sent-passes : Passes (sendWritten sseq step t n samples level wait addr)
-    unfolding sendWritten
-    sent-passes = closed level wait addr origin (made-passes addr t (moreSent step) (sequenceSent step sseq) n samples (k .inside) (k .known)) (k .inside)
+  pub sent-coding : reserved t ≡ false → coding (sendWritten sseq step t n samples level wait addr) ≡ t
+  unfolding sendWritten onward onwardHead made madeHead framed
+  sent-coding known = type-of (moreSent step) t (not-reserved t known .1)
 
-    pub sent-coding : coding (sendWritten sseq step t n samples level wait addr) ≡ t
-    unfolding sendWritten onward onwardHead made madeHead framed
-    sent-coding = type-of (moreSent step) t (not-reserved t (k .known) .1)
+  pub sent-more : reserved t ≡ false → moreBit (sendWritten sseq step t n samples level wait addr) ≡ moreSent step
+  unfolding sendWritten onward onwardHead made madeHead framed
+  sent-more known = more-of (moreSent step) t (more-le step) (not-reserved t known .1)
 
-    pub sent-more : moreBit (sendWritten sseq step t n samples level wait addr) ≡ moreSent step
-    unfolding sendWritten onward onwardHead made madeHead framed
-    sent-more = more-of (moreSent step) t (more-le step) (not-reserved t (k .known) .1)
+  pub sent-sequence : sseq ≤ 15 → n ≤ 15 → sequence (sendWritten sseq step t n samples level wait addr) ≡ sequenceSent step sseq
+  unfolding sendWritten onward onwardHead made madeHead framed
+  sent-sequence hs hn = upper-of (sequenceSent step sseq) n (sequence-le step sseq hs) hn
 
-    pub sent-sequence : sequence (sendWritten sseq step t n samples level wait addr) ≡ sequenceSent step sseq
-    unfolding sendWritten onward onwardHead made madeHead framed
-    sent-sequence = upper-of (sequenceSent step sseq) n (sequence-le step sseq (k .in-record)) (k .quiet)
-
-    pub sent-noise : noise (sendWritten sseq step t n samples level wait addr) ≡ n
-    unfolding sendWritten onward onwardHead made madeHead framed
-    sent-noise = lower-of (sequenceSent step sseq) n (k .quiet)
+  pub sent-noise : n ≤ 15 → noise (sendWritten sseq step t n samples level wait addr) ≡ n
+  unfolding sendWritten onward onwardHead made madeHead framed
+  sent-noise hn = lower-of (sequenceSent step sseq) n hn

@@ -1,22 +1,20 @@
 -- Laws of the signalling frame: what is known of a call that is not refused, how long its frame is, that it passes every check, and its fields.
-use Prim.Native.Nat.{ℕ, _+_, _-_, _*_, _/_, _%_, min, _≤_, _<_}
-use mathlib.Core.Path.{_≡_, refl, ap, sym, _∙_}
-use mathlib.Core.Bool.{Bool, true, false, _||_}
-use mathlib.Core.List.{List, [], _∷_, _++_}
+use Prim.Native.Nat.{ℕ, _+_, _-_, _/_, _≤_}
+use mathlib.Core.Path.{_≡_, refl, ap, _∙_}
+use mathlib.Core.Bool.{false}
+use mathlib.Core.List.{List, [], _++_}
 use native.Mathlib.Omega.{arith}
-use lib.Dec.{ltb}
 use lib.ListN.{length, take, drop}
 use borrow.Author.Tests.{ltb-false, le-ltb}
-use Rattle.octets.specs.Octets.{octet}
 use Rattle.octets.proofs.BoolLaws.{or-false}
-use Rattle.refusals.specs.Refusals.{_orElse_, refuse, addressBad, refusal12, refusal15, refusal16}
+use Rattle.refusals.specs.Refusals.{_orElse_, addressBad}
 use Rattle.refusals.proofs.RefusalLaws.{orElse-zero, refuse-zero, in-range}
 use Rattle.fcs.specs.Fcs.{fcsOctets}
 use Rattle.frame.specs.Fields.{isVoice, stamp, moreBit, sequence, na, signalBits}
 use Rattle.frame.specs.Orders.{signalRefusal as readerRefusal}
-use Rattle.frame.proofs.FrameLaws.{Passes, Linked, LaidOut, link-passed, layout-passed}
+use Rattle.frame.proofs.FrameLaws.{Passes, link-passed, layout-passed}
 use Rattle.onward.specs.Onward.{stampAfter, dropped, onwardHead, onwardField, framed, onward}
-use Rattle.onward.proofs.OnwardLaws.{framed-length, framed-good, onward-length, closed, sealed-behind}
+use Rattle.onward.proofs.OnwardLaws.{framed-good, onward-length, closed, sealed-behind}
 use Rattle.origin.specs.Signal.{signalHead, signalWritten, signalRefusal}
 
 module _ (bits n wait addr : ℕ) where

@@ -1,6 +1,6 @@
 -- Document 01, "Origin and node": SSEQ, 0 outside a burst and 1 to 15 inside, and what each step sends and sets.
 use Prim.Native.Nat.{ℕ}
-use mathlib.Core.Bool.{Bool, not}
+use mathlib.Core.Bool.{not}
 use lib.Dec.{ltb, eqb}
 use Rattle.octets.specs.Sequence.{nextNumber}
 use mathlib.Core.List.{List, [], _∷_}

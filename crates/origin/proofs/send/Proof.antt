@@ -3,7 +3,6 @@ use Rattle.refusals.proofs.RefusalLaws.{refused-is, done-is}
 use Rattle.onward.specs.Onward.{waitOf}
 use Rattle.onward.specs.Sent.{sentAnswer, sentBuffer}
 use Rattle.origin.specs.Send.{sendAnswer, sendBuffer, sendSseq}
-use mathlib.Core.List.{[]}
 use Rattle.origin.proofs.SendLaws.{answer-done, buffer-done}
 use borrow.Author.Needs.{needs}
 use Rattle.origin.proofs.send.Statement.{statement}
@@ -43,7 +42,7 @@ returns-2 c =
     let e = k .ensures (waitOf (a .from) (a .to)) in
     let z = c .before .before .before .before .before .before .if1 .left in
     let s = rw (c .before .before .before .before .before .wait-of .ensures .0) at (c .before .before .before .write-voice .ensures) in
-    (answer-done _ (k .result) _ _ (a .out .now) [] e z (s .0), (buffer-done _ (k .result) _ _ _ _ e z (s .0) (s .1), done-is _ (k .result) _ _ _ e z (c .sseq-set .ensures)))
+    (answer-done _ (k .result) _ _ e z (s .0), (buffer-done _ (k .result) _ _ e z (s .0) _ _ (s .1), done-is _ (k .result) _ _ _ e z (c .sseq-set .ensures)))
 
 pub send-spec : {M : Type 1} → statement M
 send-spec =
