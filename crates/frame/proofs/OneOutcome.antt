@@ -1,14 +1,12 @@
 -- Of `link` and `taken`, two outcomes that the promise allows are equal.
-use Prim.Native.Nat.{ℕ}
 use mathlib.Core.Path.{_≡_}
-use mathlib.Core.List.{List}
+use contract.Lifetimes.{Lfts}
 use Rattle.octets.proofs.BoolLaws.{one-outcome}
-use Rattle.frame.specs.Calls.{linkAnswer, takenAnswer}
-use Rattle.frame.specs.declared.LinkFacts.{LinkFacts}
-use Rattle.frame.specs.declared.TakenFacts.{TakenFacts}
+use Rattle.frame.proofs.link.Reads as link
+use Rattle.frame.proofs.taken.Reads as taken
 
-pub link-one : (f : List ℕ) (r r' : LinkFacts) → r ≡ linkAnswer f → r' ≡ linkAnswer f → r ≡ r'
-link-one f r r' p q = one-outcome p q
+pub link-one : (κs : Lfts 1) (a r r' s s' : _) → link.Post κs a r s → link.Post κs a r' s' → r ≡ r'
+link-one κs a r r' s s' p q = one-outcome p q
 
-pub taken-one : (f : List ℕ) (r r' : TakenFacts) → r ≡ takenAnswer f → r' ≡ takenAnswer f → r ≡ r'
-taken-one f r r' p q = one-outcome p q
+pub taken-one : (κs : Lfts 1) (a r r' s s' : _) → taken.Post κs a r s → taken.Post κs a r' s' → r ≡ r'
+taken-one κs a r r' s s' p q = one-outcome p q

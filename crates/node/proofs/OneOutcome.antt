@@ -1,14 +1,13 @@
 -- Of `forward`, two outcomes that the promise allows are equal: the answer, and the buffer.
-use Prim.Native.Nat.{ℕ}
 use mathlib.Core.Path.{_≡_}
-use mathlib.Core.List.{List}
+use contract.Lifetimes.{Lfts}
+use borrow.Fn.Kinds.{Dens, endedOf}
+use denote.Triple.Clauses.{AtExit}
 use Rattle.octets.proofs.BoolLaws.{one-outcome}
-use Rattle.onward.specs.declared.Sent.{Sent}
-use Rattle.node.specs.Node.{forwardAnswer, forwardBuffer}
+use Rattle.node.proofs.forward.Reads as forward
+use Rattle.node.proofs.forward.Kinds as kinds
 
-module _ (level wait addr : ℕ) (f out : List ℕ) where
-  pub forward-one : (r r' : Sent) (x x' : List ℕ)
-      → (r ≡ forwardAnswer level wait addr f out) × (x ≡ forwardBuffer level wait addr f out)
-      → (r' ≡ forwardAnswer level wait addr f out) × (x' ≡ forwardBuffer level wait addr f out)
-      → (r ≡ r') × (x ≡ x')
-  forward-one r r' x x' p q = (one-outcome (p .0) (q .0), one-outcome (p .1) (q .1))
+pub forward-one : (κs : Lfts 2) (a : Dens κs kinds.ps) (r r' : _) (s s' : AtExit (endedOf 2 kinds.ps kinds.r) κs)
+    → forward.Post κs a r s → forward.Post κs a r' s'
+    → (r ≡ r') × (s .1 .1 .1 .1 .1 .0 .now ≡ s' .1 .1 .1 .1 .1 .0 .now)
+forward-one κs a r r' s s' p q = (one-outcome (p .0) (q .0), one-outcome (p .1) (q .1))
