@@ -9,7 +9,7 @@ use borrow.Author.Tests.{ltb-true, ltb-false, lt-ltb, le-ltb, leb-false}
 use Rattle.octets.specs.Sequence.{nextNumber}
 use Rattle.octets.proofs.BoolLaws.{or-false}
 use Rattle.refusals.specs.Refusals.{_orElse_, refuse}
-use Rattle.refusals.proofs.RefusalLaws.{orElse-zero, orElse-take, orElse-pass, refuse-zero, if-taken, if-refused}
+use Rattle.refusals.proofs.RefusalLaws.{orElse-zero, orElse-assoc, orElse-take, orElse-pass, refuse-zero, if-taken, if-refused}
 use Rattle.endpoint.specs.declared.Endpoint.{Endpoint}
 use Rattle.endpoint.specs.declared.Decision.{Decision}
 use Rattle.endpoint.specs.Play.{freshRecord, clockLimit, recordBad, refusal14, refusal18, inTurn, hold, dueAt, refusal17, refusal20, playRefusal, rseqAfter, afterScheduled, scheduledAt, refusedWith, decision}
@@ -64,11 +64,6 @@ past-sum t from ms h = go (ltb (from + ms) t) refl where
   go : (b : Bool) → ltb (from + ms) t ≡ b → ltb ms (t - from) ≡ b
   go true e = lt-ltb ms (t - from) (omega (arith, ltb-true (from + ms) t e))
   go false e = le-ltb ms (t - from) (omega (arith, ltb-false (from + ms) t e))
-
--- an order may be judged in two parts
-pub orElse-assoc : (a b c : ℕ) → a orElse b orElse c ≡ (a orElse b) orElse c
-orElse-assoc zero b c = refl
-orElse-assoc (suc a) b c = refl
 
 next-low : (seq : ℕ) → nextNumber seq ≤ 15
 next-low seq = go (leb 15 seq) refl where

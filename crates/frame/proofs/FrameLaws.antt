@@ -10,11 +10,18 @@ use borrow.Author.Tests.{ltb-false, eqb-true, le-ltb, eq-eqb, not-false}
 use Rattle.octets.specs.Octets.{octet}
 use Rattle.octets.proofs.BoolLaws.{or-false}
 use Rattle.refusals.specs.Refusals.{_orElse_, refuse, addressBad, refusal1}
-use Rattle.refusals.proofs.RefusalLaws.{orElse-zero, refuse-zero, in-range, range-in}
+use Rattle.refusals.proofs.RefusalLaws.{orElse-zero, orElse-assoc, refuse-zero, in-range, range-in}
 use Rattle.fcs.specs.Fcs.{fcsGood}
 use Rattle.coding.specs.Coding.{droppableBits, sampleBits, frameLength, reserved}
 use Rattle.frame.specs.Fields.{address, control, isVoice, fieldM, fieldC, stamp, coding, covered}
 use Rattle.frame.specs.Orders.{refusal2, refusal3, refusal4, refusal5, refusal6, refusal7, refusal8, refusal9, refusal19, legalLength, linkRefusal, layoutRefusal, takenRefusal, voiceRefusal, signalRefusal}
+
+-- 1, 2 and 3 are judged together, and then 4 and 5
+pub link-parts : (f : List ℕ) → linkRefusal f ≡ (refusal1 (length f) orElse (refusal2 f orElse refusal3 f)) orElse (refusal4 f orElse refusal5 f)
+unfolding linkRefusal
+link-parts f =
+    ap (λ (r : ℕ). refusal1 (length f) orElse r) (orElse-assoc (refusal2 f) (refusal3 f) (refusal4 f orElse refusal5 f))
+    ∙ orElse-assoc (refusal1 (length f)) (refusal2 f orElse refusal3 f) (refusal4 f orElse refusal5 f)
 
 -- 1 to 5
 pub record Linked (f : List ℕ) : Type 0 where

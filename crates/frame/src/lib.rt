@@ -161,22 +161,16 @@ fn refusal_19(frame: &[u8], voicecall: bool) -> u8
     }
 }
 
-fn header_refusal(frame: &[u8]) -> u8
-    ensures { λ r. ⌜ r ≡ refusal2 (now (frame .entry)) orElse refusal3 (now (frame .entry)) orElse refusal4 (now (frame .entry)) orElse refusal5 (now (frame .entry)) ⌝ }
-{
-    let after = or_else(refusal_4(frame), refusal_5(frame));
-    or_else(refusal_2(frame), or_else(refusal_3(frame), after))
-}
-
-// The length is judged alone and first: a frame of a megabyte costs no sum.
+// What costs no sum is judged first: a frame of a megabyte, or one of another protocol, is refused at once.
 pub fn link_refusal(frame: &[u8]) -> u8
     ensures { λ r. ⌜ r ≡ linkRefusal (now (frame .entry)) ⌝ }
 {
-    let first = refusals::refusal_1(frame.len());
+    let form = or_else(refusal_2(frame), refusal_3(frame));
+    let first = or_else(refusals::refusal_1(frame.len()), form);
     if first != 0 {
         return first;
     }
-    header_refusal(frame)
+    or_else(refusal_4(frame), refusal_5(frame))
 }
 
 fn layout_refusal(frame: &[u8]) -> u8

@@ -270,7 +270,7 @@ module _ (sseq : ℕ) (step : Step) (t n : ℕ) (samples : List ℕ) (level wait
 
   pub sent-passes : addressBad addr ≡ false → reserved t ≡ false → Passes (sendWritten sseq step t n samples level wait addr)
   unfolding sendWritten
-  sent-passes inside known = closed level wait addr origin (made-passes addr t (moreSent step) (sequenceSent step sseq) n samples inside known) inside
+  sent-passes inside known = closed level wait addr just-made (made-passes addr t (moreSent step) (sequenceSent step sseq) n samples inside known) inside
 
   pub sent-coding : reserved t ≡ false → coding (sendWritten sseq step t n samples level wait addr) ≡ t
   unfolding sendWritten onward onwardHead made madeHead framed

@@ -44,3 +44,8 @@ refused-is q r a b x e h k = k ∙ sym (if-refused q a b (λ z. h (e ∙ z)))
 
 pub done-is : {A : Type 0} (q r : ℕ) (a b x : A) → r ≡ q → r ≡ 0 → x ≡ a → x ≡ ifTaken q a b
 done-is q r a b x e z k = k ∙ sym (if-taken q a b (sym e ∙ z))
+
+-- three parts of an order, of which the first two are judged together
+pub orElse-assoc : (a b c : ℕ) → a orElse b orElse c ≡ (a orElse b) orElse c
+orElse-assoc zero b c = refl
+orElse-assoc (suc a) b c = refl

@@ -1,0 +1,51 @@
+-- What is known of slices that are long enough, and what each lent slice holds where this form refuses, and where it does not.
+use Prim.Native.Nat.{ℕ, _≤_}
+use mathlib.Core.Path.{_≡_, refl, sym, _∙_}
+use mathlib.Core.Bool.{Bool, true, false, cond, _||_}
+use mathlib.Core.List.{List, [], _∷_}
+use native.Mathlib.Omega.{arith}
+use lib.Dec.{ltb, eqb}
+use lib.ListN.{length, take, set, length-take}
+use borrow.Author.Tests.{ltb-false, eqb-true, not-false}
+use Rattle.refusals.specs.Refusals.{_orElse_, refusal16}
+use Rattle.refusals.proofs.RefusalLaws.{orElse-zero, refuse-zero, refused-is, done-is}
+use Rattle.endpoint.specs.Fill.{fillOf}
+use Rattle.card.specs.Card.{put, written, recordRefusal}
+
+pub roomy : {n l r : ℕ} → r ≡ refusal16 l n → r ≡ 0 → n ≤ l
+roomy {n} {l} e z = ltb-false l n (refuse-zero _ 15 (sym e ∙ z))
+
+pub roomy-two : (first n second m : ℕ) {r : ℕ} → r ≡ refusal16 first n orElse refusal16 second m → r ≡ 0 → (n ≤ first) × (m ≤ second)
+roomy-two first n second m e z =
+    let p = orElse-zero (refusal16 first n) (refusal16 second m) (sym e ∙ z) in
+    (roomy {r = refusal16 first n} refl (p .0), roomy {r = refusal16 second m} refl (p .1))
+
+pub six : (n : ℕ) {r : ℕ} → r ≡ recordRefusal n → r ≡ 0 → n ≡ 6
+six n e z = eqb-true n 6 (not-false (eqb n 6) (refuse-zero _ 13 (sym e ∙ z)))
+
+-- an order whose parts are known
+pub both : {r a b x y : ℕ} → r ≡ a orElse b → a ≡ x → b ≡ y → r ≡ x orElse y
+both e p q = rw (← p, ← q) e
+
+-- a fill fits where 128 do
+pub fill-fits : (last noise : List ℕ) (mlast : ℕ) → length (fillOf last noise mlast) ≤ 128
+fill-fits last noise mlast = go (ltb (length last) 128 || ltb (length noise) 128) where
+  go : (b : Bool) → length (cond b [] (take 128 (cond (eqb mlast 1) last noise))) ≤ 128
+  go true = omega arith
+  go false = rw length-take (omega arith)
+
+-- one value, stored
+pub stored : {A : Type 0} (x : A) (slot : List A) → 1 ≤ length slot → set slot 0 x ≡ put (x ∷ []) slot
+unfolding put
+stored x [] h = absurd (omega arith)
+stored x (y ∷ slot) h = refl
+
+-- r is the number that this form gives
+module _ {A : Type 0} (flat r : ℕ) (values slot : List A) (e : r ≡ flat) where
+  pub left-alone : (r ≡ 0 → ⊥) → slot ≡ written flat values slot
+  unfolding written
+  left-alone h = refused-is flat r _ _ slot e h refl
+
+  pub answered : r ≡ 0 → (x : List A) → x ≡ put values slot → x ≡ written flat values slot
+  unfolding written
+  answered z x p = done-is flat r _ _ x e z p

@@ -1,0 +1,3 @@
+pub mod CardLaws
+pub mod KeptLaws
+pub mod OneOutcome

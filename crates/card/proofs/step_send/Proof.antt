@@ -1,0 +1,39 @@
+use mathlib.Core.Path.{refl}
+use borrow.Author.Needs.{needs}
+use Rattle.refusals.proofs.RefusalLaws.{refused-is, done-is}
+use Rattle.card.specs.Card.{stepAnswer, stepBuffer, stepSseq}
+use Rattle.card.proofs.step_send.Statement.{statement}
+use Rattle.card.proofs.step_send.Tie as tie
+
+refuse-requires : tie.Need-refuse-requires
+refuse-requires c κs = search needs
+
+returns : tie.Need-returns
+unfolding stepAnswer stepBuffer stepSseq
+returns c =
+    let e = c .before .refuse .ensures in
+    let t = c .if1 .taken in
+    (refused-is _ _ _ _ _ e t (cc), (refused-is _ _ _ _ _ e t refl, refused-is _ _ _ _ _ e t refl))
+
+step-of-requires : tie.Need-step-of-requires
+step-of-requires c κs = search needs
+
+send-requires : tie.Need-send-requires
+send-requires c κs = search needs
+
+same-length : tie.Need-same-length
+same-length c = search needs
+
+returns-2 : tie.Need-returns-2
+unfolding stepAnswer stepBuffer stepSseq
+returns-2 c =
+    let e = c .before .before .before .before .before .before .before .refuse .ensures in
+    let z = c .before .before .before .before .before .before .if1 .left in
+    let o = c .before .before .before .before .step-of .ensures in
+    let s = c .before .before .send .ensures in
+    (done-is _ _ _ _ _ e z (rw o at (s .0)), (done-is _ _ _ _ _ e z (rw o at (s .1 .0)), done-is _ _ _ _ _ e z (rw o at (s .1 .1))))
+
+pub step-send-spec : {M : Type 1} → statement M
+step-send-spec =
+    tie.close
+    (tie.spec refuse-requires returns step-of-requires send-requires same-length returns-2)
