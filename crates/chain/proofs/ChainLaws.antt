@@ -1,11 +1,11 @@
 -- Demand 3, proved: any list of nodes behind an origin is one node, and what is heard at its end.
-use Prim.Native.Nat.{ℕ, zero, suc, _+_, _-_, _*_, _/_, _%_, _^_, min, _≤_}
+use Prim.Native.Nat.{ℕ, zero, _+_, _-_, _*_, _/_, _%_, min, _≤_}
 use mathlib.Core.Path.{_≡_, refl, ap, ap₂, sym, _∙_}
 use mathlib.Core.Bool.{true, false}
 use mathlib.Core.List.{List, [], _∷_, _++_, map}
 use native.Mathlib.Nat.{add-zero, add-assoc, le-refl}
 use native.Mathlib.Omega.{arith}
-use lib.ListN.{length, take, drop}
+use lib.ListN.{length, drop}
 use Rattle.octets.specs.Octets.{octet}
 use Rattle.refusals.specs.Refusals.{addressBad}
 use Rattle.fcs.specs.Fcs.{fcsOctets}
@@ -17,17 +17,16 @@ use Rattle.frame.specs.Fields.{isVoice, fieldM, fieldC, stamp, moreBit, coding,
 use Rattle.frame.specs.Orders.{voiceRefusal}
 use Rattle.frame.proofs.FrameLaws.{Passes, passed, taken-voice}
 use Rattle.onward.specs.Onward.{waitOf, stampAfter, dropped, onwardHead, onwardField, framed, onward}
-use Rattle.onward.specs.Sent.{sentAnswer, sentBuffer}
-use Rattle.onward.proofs.OnwardLaws.{onward-two, onward-capped, onward-length}
+use Rattle.onward.proofs.OnwardLaws.{onward-two, onward-capped}
 use Rattle.onward.proofs.SentLaws.{answered, whole-output}
 use Rattle.node.specs.Node.{forwardRefusal, forwardAnswer, forwardBuffer}
-use Rattle.node.proofs.ForwardLaws.{Forwarded, not-refused}
+use Rattle.node.proofs.ForwardLaws.{not-refused}
 use Rattle.origin.specs.Burst.{sequenceSent, moreSent}
 use Rattle.origin.specs.Send.{madeHead, made, sendWritten, sendRefusal, sendAnswer, sendBuffer}
 use Rattle.origin.proofs.SendLaws.{SendTaken, send-taken, written-field, sent-length, sent-M, sent-C, sent-voice, sent-stamp, sent-passes, sent-coding, sent-more, sent-sequence, sent-noise}
 use Rattle.endpoint.specs.declared.Heard.{Heard}
 use Rattle.endpoint.specs.Read.{samplesOf, heardOf, readAnswer}
-use Rattle.chain.specs.Chain.{Origin, refusedAt, sent, Node, refusedBy, handed, chain, AllTake, Ready, AllReady, levels, waits, lastAddress, single, lost}
+use Rattle.chain.specs.Chain.{Origin, refusedAt, sent, Node, refusedBy, handed, chain, AllTake, AllReady, levels, waits, lastAddress, single, lost}
 
 -- ---- what the origin sends, and what is made of it on the way
 

@@ -1,7 +1,7 @@
 -- Two outcomes that a promise of this crate allows are the same.
 use Prim.Native.Nat.{ℕ}
 use mathlib.Core.Path.{_≡_, refl, ap, sym, _∙_}
-use mathlib.Core.Bool.{Bool, true, false}
+use mathlib.Core.Bool.{true, false}
 use native.Mathlib.Omega.{arith}
 use lib.Dec.{eqb, ltb}
 use lib.Ieee.{Float, eq, round}
@@ -11,7 +11,7 @@ use Rattle.octets.proofs.TabLaws.{agree}
 use Rattle.octets.proofs.BoolLaws.{one-outcome, or-false}
 use Rattle.refusals.proofs.RefusalLaws.{refuse-zero}
 use Rattle.coding.specs.Coding.{sampleBits, droppableBits, resetBit, reserved, frameLength, refusal6}
-use Rattle.coding.specs.Noise.{Paper, noiseOf, paper, tenths, tenth}
+use Rattle.coding.specs.Noise.{noiseOf, paper, tenths, tenth}
 use Rattle.coding.specs.declared.Noise.{Noise}
 use Rattle.coding.specs.declared.Noise.the-variants.{Idle, Level, Refused}
 

@@ -7,7 +7,7 @@ use native.Mathlib.Omega.{arith}
 use lib.Bits.{xor-lt}
 use lib.ListN.{length, getD, drop, drop-of-length-le}
 use lib.Seq.{drop-cons}
-use Rattle.fcs.specs.Fcs.{generator, fcsStep, fcsBits, fcsRun, fcsOf}
+use Rattle.fcs.specs.Fcs.{generator, fcsStep, fcsBits, fcsRun}
 
 -- what a loop over the octets asks
 pub run-next : (s : List ℕ) (i reg next : ℕ) → i < length s → next ≡ fcsBits 8 reg (getD s i 0) → fcsRun next (drop (i + 1) s) ≡ fcsRun reg (drop i s)
@@ -38,8 +38,3 @@ pub run-below : (reg : ℕ) (l : List ℕ) → reg < 65536 → fcsRun reg l < 65
 unfolding fcsRun
 run-below reg [] h = h
 run-below reg (x ∷ l) h = run-below (fcsBits 8 reg x) l (bits-below 8 reg x h)
-
--- and so has a check
-pub fcs-below : (l : List ℕ) → fcsOf l < 65536
-unfolding fcsOf
-fcs-below l = omega arith

@@ -1,6 +1,6 @@
 -- The check at a frame's end: the test and the seal agree, and an old check does not pass on changed octets.
 use Prim.Native.Nat.{ℕ, suc, min, _+_, _-_, _*_, _/_, _%_, _≤_, _<_}
-use mathlib.Core.Path.{_≡_, refl, sym, ap, ap₂, _∙_}
+use mathlib.Core.Path.{_≡_, sym, ap, ap₂, _∙_}
 use mathlib.Core.Bool.{true}
 use mathlib.Core.Logic.{_↔_}
 use mathlib.Core.List.{List, [], _∷_, _++_}
@@ -28,10 +28,6 @@ pub put : (n at : ℕ) (f : List ℕ) {check : ℕ} → at + 2 ≤ length f → 
     → set (set f at (check % 256)) (at + 1) (check / 256) ≡ take at f ++ fcsOctets (take n f) ++ drop (at + 2) f
 unfolding fcsOctets
 put n at f {check} h e = rw (add-one, ← e) (sets-eq (check % 256 ∷ check / 256 ∷ []) f at h)
-
-pub length-check : (l : List ℕ) → length (fcsOctets l) ≡ 2
-unfolding fcsOctets
-length-check l = refl
 
 -- the check that a sealed list sends
 pub sent : (l p : List ℕ) → sentCheck (l ++ fcsOctets p) ≡ fcsOf p

@@ -1,20 +1,19 @@
 -- What is known of a frame that nothing refuses, both ways.
-use Prim.Native.Nat.{ℕ, zero, suc, _+_, _-_, _*_, _/_, _%_, _≤_}
-use mathlib.Core.Path.{_≡_, refl, ap, sym, _∙_}
-use mathlib.Core.Bool.{Bool, true, false, _||_, _&&_, not, cond}
+use Prim.Native.Nat.{ℕ, _-_, _%_, _≤_}
+use mathlib.Core.Path.{_≡_, ap, _∙_}
+use mathlib.Core.Bool.{true, false, _&&_, not, cond}
 use mathlib.Core.List.{List}
-use native.Mathlib.Omega.{arith}
-use lib.Dec.{ltb, eqb}
-use lib.ListN.{length, take}
+use lib.Dec.{eqb}
+use lib.ListN.{length}
 use borrow.Author.Tests.{ltb-false, eqb-true, le-ltb, eq-eqb, not-false}
 use Rattle.octets.specs.Octets.{octet}
 use Rattle.octets.proofs.BoolLaws.{or-false}
-use Rattle.refusals.specs.Refusals.{_orElse_, refuse, addressBad, refusal1}
+use Rattle.refusals.specs.Refusals.{_orElse_, refusal1}
 use Rattle.refusals.proofs.RefusalLaws.{orElse-zero, orElse-assoc, refuse-zero, in-range, range-in}
 use Rattle.fcs.specs.Fcs.{fcsGood}
-use Rattle.coding.specs.Coding.{droppableBits, sampleBits, frameLength, reserved}
+use Rattle.coding.specs.Coding.{droppableBits, reserved}
 use Rattle.frame.specs.Fields.{address, control, isVoice, fieldM, fieldC, stamp, coding, covered}
-use Rattle.frame.specs.Orders.{refusal2, refusal3, refusal4, refusal5, refusal6, refusal7, refusal8, refusal9, refusal19, legalLength, linkRefusal, layoutRefusal, takenRefusal, voiceRefusal, signalRefusal}
+use Rattle.frame.specs.Orders.{refusal2, refusal3, refusal4, refusal5, legalLength, linkRefusal, layoutRefusal, takenRefusal, voiceRefusal, signalRefusal}
 
 -- 1, 2 and 3 are judged together, and then 4 and 5
 pub link-parts : (f : List ℕ) → linkRefusal f ≡ (refusal1 (length f) orElse (refusal2 f orElse refusal3 f)) orElse (refusal4 f orElse refusal5 f)

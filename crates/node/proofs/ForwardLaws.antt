@@ -4,8 +4,7 @@ use mathlib.Core.Path.{_≡_, refl, ap, sym, _∙_}
 use mathlib.Core.Bool.{false}
 use mathlib.Core.List.{List, _++_}
 use native.Mathlib.Omega.{arith}
-use lib.ListN.{length, take, drop, length-append, length-take, length-drop}
-use lib.Seq.{take-all, take-at, length-take-le}
+use lib.ListN.{length, take, drop, length-append}
 use borrow.Author.Tests.{ltb-false, le-ltb}
 use borrow.Rule.Slice.PartMut.{putMid, midOf}
 use Rattle.octets.proofs.PartLaws.{grown}

@@ -1,5 +1,5 @@
 -- Laws of `tab`: its length and elements, the loop that writes it, and a table's rule by one list that antt computes.
-use Prim.Native.Nat.{ℕ, zero, suc, _+_, _≤_, _<_}
+use Prim.Native.Nat.{ℕ, zero, suc, _+_, _<_}
 use mathlib.Core.Path.{_≡_, refl, sym, ap, _∙_}
 use mathlib.Core.Logic.{⊎-elim}
 use mathlib.Core.List.{List, [], _∷_, _++_, map}
@@ -38,10 +38,6 @@ unfolding tab
 tab-more f l n h =
     rw (drop-cons l n 0, set-at (tab f n) (getD l n 0) (drop (suc n) l) (f n) n (length-tab f n))
     (sym (append-snoc (tab f n) (f n) (drop (suc n) l)))
-
--- the element that such a loop reads is still the old one
-pub tab-rest : (f : ℕ → ℕ) (l : List ℕ) (n d : ℕ) → n < length l → getD (tab f n ++ drop n l) n d ≡ getD l n d
-tab-rest f l n d h = rw (drop-cons l n d) (getD-at (tab f n) (getD l n d) (drop (suc n) l) d n (length-tab f n))
 
 -- a function of each element, by index or by `map`
 pub tab-map : (f : ℕ → ℕ) (xs : List ℕ) (n : ℕ) → length xs ≡ n → tab (λ i. f (getD xs i 0)) n ≡ map f xs

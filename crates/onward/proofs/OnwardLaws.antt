@@ -1,8 +1,8 @@
 -- Laws of what is sent on: how long it is, that two steps are one, and that it passes every check again.
-use Prim.Native.Nat.{ℕ, zero, suc, _+_, _-_, _*_, _/_, _%_, min, _≤_, _<_}
+use Prim.Native.Nat.{ℕ, _+_, _-_, _*_, _/_, _%_, min, _≤_}
 use mathlib.Core.Path.{_≡_, refl, ap, sym, _∙_}
 use mathlib.Core.Bool.{Bool, true, false, cond}
-use mathlib.Core.List.{List, [], _∷_, _++_}
+use mathlib.Core.List.{List, _++_}
 use native.Mathlib.Omega.{arith}
 use lib.ListN.{length, take, drop, length-append, length-take, length-drop}
 use lib.Seq.{take-append-le, take-take, take-length, take-at, drop-at, drop-drop}
@@ -13,9 +13,8 @@ use Rattle.fcs.specs.Fcs.{fcsOctets, fcsGood}
 use Rattle.fcs.proofs.SealLaws.{sealed-good}
 use Rattle.coding.specs.Coding.{sampleBits, droppableBits, frameLength, reserved}
 use Rattle.coding.proofs.CodingLaws.{d-le-s}
-use Rattle.frame.specs.Fields.{address, control, isVoice, fieldM, fieldC, stamp, coding, covered}
-use Rattle.frame.specs.Orders.{legalLength}
-use Rattle.frame.proofs.FrameLaws.{Passes, Linked, LaidOut}
+use Rattle.frame.specs.Fields.{address, isVoice, fieldM, fieldC, stamp, coding, covered}
+use Rattle.frame.proofs.FrameLaws.{Passes}
 use Rattle.onward.specs.Onward.{stampAfter, dropped, onwardHead, onwardField, framed, onward}
 
 -- ---- the stamp
@@ -189,10 +188,6 @@ module _ (l w a : ℕ) (f : List ℕ) (p : Passes f) where
           stamped = stamp-legal (stamp f) w;
         };
       }
-
-  pub onward-voice : isVoice (onward l w a f) ≡ isVoice f
-  unfolding onward onwardHead framed
-  onward-voice = refl
 
 -- ---- what the writers leave in their buffer
 

@@ -9,13 +9,16 @@ use Rattle.blocks.proofs.add_octet.Statement.{statement}
 use Rattle.blocks.proofs.add_octet.Tie as tie
 
 abbrev Inv-loop : tie.InvT-loop
-Inv-loop out₀ x w at k₀ out k = (k ≤ 8) × (length out ≡ 128) × (length out₀ ≡ 128) × (out ≡ bitsAdded out₀ x w at k)
+Inv-loop out₀ x w at bits k₀ out k = (k ≤ 8) × (length out ≡ 128) × (length out₀ ≡ 128) × (out ≡ bitsAdded out₀ x w at k)
 
 abbrev μ-loop : tie.MeasureT-loop
-μ-loop out₀ x w at k₀ out k = 8 - k
+μ-loop out₀ x w at bits k₀ out k = 8 - k
+
+spread-requires : tie.Need-spread-requires Inv-loop μ-loop
+spread-requires c κs = search needs
 
 loop-holds : tie.Need-loop-holds Inv-loop μ-loop
-loop-holds c = (search needs, c .pre .0, c .pre .0, sym (bits-none _ _ _ _))
+loop-holds c = (search needs, c .before .pre .0, c .before .pre .0, sym (bits-none _ _ _ _))
 
 add-out : tie.Need-add-out Inv-loop μ-loop
 add-out c = search needs
@@ -23,24 +26,24 @@ add-out c = search needs
 element-copy-out-out : tie.Need-element-copy-out-out Inv-loop μ-loop
 element-copy-out-out c = search needs
 
-moved-requires : tie.Need-moved-requires Inv-loop μ-loop
-moved-requires c κs = search needs
+octet-of-requires : tie.Need-octet-of-requires Inv-loop μ-loop
+octet-of-requires c κs = search needs
 
 -- the sample after a turn
-next : (c : tie.After-moved Inv-loop μ-loop) →
-    let a = c .before .before .before .before .args in
+next : (c : tie.After-octet-of Inv-loop μ-loop) →
+    let a = c .before .before .before .before .before .args in
     let l = c .before .before .before .loop in
-    getD (l .out) (a .at + l .k) 0 + c .moved .result ≡ getD (a .out .now) (a .at + l .k) 0 + bitOf (a .x) (l .k) * 2 ^ a .w
+    getD (l .out) (a .at + l .k) 0 + c .octet-of .result ≡ getD (a .out .now) (a .at + l .k) 0 + bitOf (a .x) (l .k) * 2 ^ a .w
 next c =
-    let a = c .before .before .before .before .args in
+    let a = c .before .before .before .before .before .args in
     let l = c .before .before .before .loop in
-    rw (l .inv .3, bits-next (a .out .now) (a .x) (a .w) (a .at) (l .k) (omega arith), c .moved .ensures)
+    rw (l .inv .3, bits-next (a .out .now) (a .x) (a .w) (a .at) (l .k) (omega arith), c .octet-of .ensures, c .before .before .before .before .spread .ensures (l .k) (omega arith))
 
 add-out-2 : tie.Need-add-out-2 Inv-loop μ-loop
 add-out-2 c =
-    let a = c .before .before .before .before .args in
+    let a = c .before .before .before .before .before .args in
     let l = c .before .before .before .loop in
-    let h = c .before .before .before .before .pre .3 (l .k) (omega arith) in
+    let h = c .before .before .before .before .before .pre .3 (l .k) (omega arith) in
     rw (next c) (omega (arith, h, bit-mul-le (a .x) (l .k) (2 ^ a .w)))
 
 add-out-3 : tie.Need-add-out-3 Inv-loop μ-loop
@@ -57,7 +60,7 @@ loop-less c = search needs
 
 loop-again : tie.Need-loop-again Inv-loop μ-loop
 loop-again c =
-    let a = c .before .before .before .before .args in
+    let a = c .before .before .before .before .before .args in
     let l = c .before .before .before .loop in (
       omega arith,
       simp length-set (l .inv .1),
@@ -76,10 +79,11 @@ add-octet-spec =
     (tie.spec
     Inv-loop
     μ-loop
+    spread-requires
     loop-holds
     add-out
     element-copy-out-out
-    moved-requires
+    octet-of-requires
     add-out-2
     add-out-3
     element-write-out

@@ -1,0 +1,92 @@
+use Prim.Native.Nat.{_+_, _*_, _-_, _≤_}
+use mathlib.Core.Path.{_≡_, refl, sym, ap, _∙_}
+use native.Mathlib.Omega.{arith}
+use lib.ListN.{length, drop}
+use lib.Seq.{sets}
+use Rattle.walking.specs.Text.{line}
+use Rattle.walking.proofs.TextLaws.{line-none, line-more, left-to-put}
+use borrow.Author.Needs.{needs}
+use Rattle.walking.proofs.put_line.Statement.{statement}
+use Rattle.walking.proofs.put_line.Tie as tie
+
+abbrev Inv-loop : tie.InvT-loop
+Inv-loop numbers out₀ at n end₀ i₀ out end i =
+    (n ≡ length numbers)
+    × (i ≤ n)
+    × (length out ≡ length out₀)
+    × (end ≤ at + 21 * i)
+    × (end + length (line (drop i numbers)) ≡ at + length (line numbers))
+    × (sets out end (line (drop i numbers)) ≡ sets out₀ at (line numbers))
+
+abbrev μ-loop : tie.MeasureT-loop
+μ-loop numbers out₀ at n end₀ i₀ out end i = n - i
+
+loop-holds : tie.Need-loop-holds Inv-loop μ-loop
+loop-holds c = (refl, omega arith, refl, omega arith, refl, refl)
+
+sub-after-number : tie.Need-sub-after-number Inv-loop μ-loop
+sub-after-number c = search needs
+
+sub-after-number-2 : tie.Need-sub-after-number-2 Inv-loop μ-loop
+sub-after-number-2 c = search needs
+
+after-number-requires : tie.Need-after-number-requires Inv-loop μ-loop
+after-number-requires c κs = search needs
+
+mul-put-number : tie.Need-mul-put-number Inv-loop μ-loop
+mul-put-number c = search needs
+
+shared-slice-read-put-number : tie.Need-shared-slice-read-put-number Inv-loop μ-loop
+shared-slice-read-put-number c = search needs
+
+put-number-requires : tie.Need-put-number-requires Inv-loop μ-loop
+put-number-requires c κs = search needs
+
+add-i : tie.Need-add-i Inv-loop μ-loop
+add-i c = search needs
+
+loop-less : tie.Need-loop-less Inv-loop μ-loop
+loop-less c = search needs
+
+loop-again : tie.Need-loop-again Inv-loop μ-loop
+loop-again c =
+    let ns = c .before .before .before .before .before .before .before .before .before .before .args .numbers .now in
+    let l = c .before .before .before .before .before .before .before .loop in
+    let q = c .before .before .put-number in
+    let e = line-more ns (l .i) (omega arith) in
+    let w = c .before .before .before .before .before .after-number .ensures in
+    let t = left-to-put (line (drop (l .i + 1) ns)) (q .ensures) in
+    (refl, omega arith, q .kept .1 .1 .0 ∙ l .inv .2, omega arith, cc (t .0, e, w, l .inv .4), cc (t .1, e, w, l .inv .5))
+
+same-length : tie.Need-same-length Inv-loop μ-loop
+same-length c = c .before .loop .inv .2
+
+returns : tie.Need-returns Inv-loop μ-loop
+returns c =
+    let ns = c .before .before .before .before .args .numbers .now in
+    let l = c .before .loop in
+    let none = line-none ns (l .i) (omega arith) in
+    record {
+      ends = omega (arith, ap length none);
+      within = omega arith;
+      holds = sym (ap (sets (l .out) (l .end)) none) ∙ l .inv .5;
+    }
+
+pub put-line-spec : {M : Type 1} → statement M
+put-line-spec =
+    tie.close
+    (tie.spec
+    Inv-loop
+    μ-loop
+    loop-holds
+    sub-after-number
+    sub-after-number-2
+    after-number-requires
+    mul-put-number
+    shared-slice-read-put-number
+    put-number-requires
+    add-i
+    loop-less
+    loop-again
+    same-length
+    returns)

@@ -1,0 +1,100 @@
+use Prim.Native.Nat.{_+_}
+use mathlib.Core.Path.{_≡_, refl, sym, ap, _∙_}
+use mathlib.Core.Bool.{true, false}
+use native.Mathlib.Omega.{arith}
+use lib.Seq.{length-take-le}
+use borrow.Author.Tests.{not-true, not-false}
+use Rattle.walking.specs.Walk.{legal, first, outcome, counted}
+use Rattle.walking.specs.Held.{carriedOf, outcomeOf}
+use Rattle.walking.proofs.TextLaws.{put-wider}
+use Rattle.walking.proofs.WalkLaws.{step-taken, step-stopped, legal-whole}
+use borrow.Author.Needs.{needs}
+use Rattle.walking.proofs.step.Statement.{statement}
+use Rattle.walking.proofs.step.Tie as tie
+
+add-number : tie.Need-add-number
+add-number c = search needs
+
+legal-requires : tie.Need-legal-requires
+legal-requires c κs = search needs
+
+put-stop-requires : tie.Need-put-stop-requires
+put-stop-requires c κs = search needs
+
+same-length : tie.Need-same-length
+same-length c = search needs
+
+returns : tie.Need-returns
+returns c =
+    let a = c .before .before .before .before .before .before .before .before .before .args in
+    let l : legal (a .rest .now) ≡ false = sym (c .before .before .before .before .before .legal .ensures) ∙ not-true _ (c .before .before .before .before .if1 .taken) in
+    rw (step-stopped (carriedOf (a .state)) (a .rest .now) l)
+    (record { carried = refl; taken = refl; going = refl; line = put-wider (c .before .before .put-stop .ensures) (omega arith) })
+
+two-octets-requires : tie.Need-two-octets-requires
+two-octets-requires c κs = search needs
+
+add-taken : tie.Need-add-taken
+add-taken c = search needs
+
+with-number-requires : tie.Need-with-number-requires
+with-number-requires c κs = search needs
+
+slice-aggregate-take-record : tie.Need-slice-aggregate-take-record
+slice-aggregate-take-record c =
+    let r = c .before .before .before .before .before .before .before .before .args .rest .now in
+    let l : legal r ≡ true = sym (c .before .before .before .before .legal .ensures) ∙ not-false _ (c .before .before .before .if1 .left) in
+    sym (length-take-le _ _ (omega (arith, legal-whole r l)))
+
+take-record-requires : tie.Need-take-record-requires
+take-record-requires c κs = search needs
+
+array-share-prefix-numbers : tie.Need-array-share-prefix-numbers
+array-share-prefix-numbers c = search needs
+
+slice-aggregate-put-line : tie.Need-slice-aggregate-put-line
+slice-aggregate-put-line c = sym (length-take-le _ _ (omega arith))
+
+put-line-requires : tie.Need-put-line-requires
+put-line-requires c κs =
+    let t = c .before .before .before .before .take-record .result .told in
+    omega (arith, length-take-le (t .count) (t .numbers) (omega arith))
+
+same-length-2 : tie.Need-same-length-2
+same-length-2 c = search needs
+
+returns-2 : tie.Need-returns-2
+returns-2 c =
+    let a = c .before .before .before .before .before .before .before .before .before .before .before .before .before .before .before .before .before .args in
+    let t = c .before .before .before .before .before .before .before .before .take-record in
+    let l : legal (a .rest .now) ≡ true = sym (c .before .before .before .before .before .before .before .before .before .before .before .before .before .legal .ensures) ∙ not-false _ (c .before .before .before .before .before .before .before .before .before .before .before .before .if1 .left) in
+    let n = c .before .before .before .before .before .before .before .before .before .before .before .two-octets .ensures .0 in
+    let o : outcomeOf (t .result) ≡ outcome (counted (carriedOf (a .state))) (first (a .rest .now)) = cc (t .ensures .0, n, c .before .before .before .before .before .before .before .before .before .before .with-number .ensures) in
+    let m = length-take-le (t .result .told .count) (t .result .told .numbers) (omega arith) in
+    rw (step-taken (carriedOf (a .state)) (a .rest .now) l)
+    (record {
+      carried = ap (λ o. o .carried) o;
+      taken = ap (_+_ 2) n;
+      going = refl;
+      line = rw (← o) (put-wider (c .before .before .before .put-line .ensures) (omega arith));
+    })
+
+pub step-spec : {M : Type 1} → statement M
+step-spec =
+    tie.close
+    (tie.spec
+    add-number
+    legal-requires
+    put-stop-requires
+    same-length
+    returns
+    two-octets-requires
+    add-taken
+    with-number-requires
+    slice-aggregate-take-record
+    take-record-requires
+    array-share-prefix-numbers
+    slice-aggregate-put-line
+    put-line-requires
+    same-length-2
+    returns-2)

@@ -1,0 +1,26 @@
+use mathlib.Core.Path.{refl}
+use native.Mathlib.Omega.{arith}
+use lib.Dec.{eqb}
+use Rattle.walking.proofs.OutcomeLaws.{told-first, few}
+use borrow.Author.Needs.{needs}
+use Rattle.walking.proofs.tell.Statement.{statement}
+use Rattle.walking.proofs.tell.Tie as tie
+
+pick-requires : tie.Need-pick-requires
+pick-requires c κs = search needs
+
+stamp-of-requires : tie.Need-stamp-of-requires
+stamp-of-requires c κs = search needs
+
+cast-t15 : tie.Need-cast-t15
+cast-t15 c = search needs
+
+returns : tie.Need-returns
+returns c =
+    let a = c .before .before .before .args in
+    let t = told-first (a .number) (a .kind) (a .refusal) (a .frame .now) (a .sixth) (a .seventh) (a .done) (omega arith) in
+    let n = c .before .pick .ensures in
+    (cc (t, n, c .stamp-of .ensures), (rw n (few (eqb (a .refusal) 0) (a .done) (omega arith)), refl))
+
+pub tell-spec : {M : Type 1} → statement M
+tell-spec = tie.close (tie.spec pick-requires stamp-of-requires cast-t15 returns)

@@ -1,0 +1,4 @@
+pub mod Text
+pub mod Walk
+pub mod Held
+pub mod Stream
