@@ -10,9 +10,8 @@ use Rattle.coding.specs.Noise.{Paper}
 use Rattle.frame.specs.declared.LinkFacts.{LinkFacts}
 use Rattle.frame.specs.declared.TakenFacts.{TakenFacts}
 use Rattle.onward.specs.declared.Sent.{Sent}
+use Rattle.origin.specs.Burst.{stepNumbered}
 use Rattle.origin.specs.Send.{sendAnswer, sendBuffer, sendSseq}
-use Rattle.origin.specs.declared.Step.{Step}
-use Rattle.origin.specs.declared.Step.the-variants.{Start, Data, Stop}
 use Rattle.endpoint.specs.Arrival.{arrivalOf}
 use Rattle.endpoint.specs.declared.Endpoint.{Endpoint}
 use Rattle.endpoint.specs.declared.Heard.{Heard}
@@ -61,10 +60,6 @@ arrivalNumbers a = a .due ∷ a .reset ∷ a .s ∷ a .dropped ∷ []
 abbrev pub signalNumbers : SignalHeard → List ℕ
 signalNumbers a = a .bits ∷ a .na ∷ a .hold ∷ []
 
--- 0 is START, 1 DATA, 2 STOP
-abbrev pub stepOf : ℕ → Step
-stepOf n = cond (eqb n 0) Start (cond (eqb n 1) Data Stop)
-
 -- a step that is none
 abbrev pub stepRefusal : ℕ → ℕ
 stepRefusal n = refuse (ltb 2 n) 13
@@ -74,14 +69,14 @@ module _ (sseq step coding noise : ℕ) (samples : List ℕ) (level wait addr : 
   unfoldable pub stepAnswer : List ℕ → Sent
   stepAnswer out =
       ifTaken (stepRefusal step)
-      (sendAnswer sseq (stepOf step) coding noise samples level wait addr out)
+      (sendAnswer sseq (stepNumbered step) coding noise samples level wait addr out)
       (record { refusal = stepRefusal step; length = 0 })
 
   unfoldable pub stepBuffer : List ℕ → List ℕ
-  stepBuffer out = ifTaken (stepRefusal step) (sendBuffer sseq (stepOf step) coding noise samples level wait addr out) out
+  stepBuffer out = ifTaken (stepRefusal step) (sendBuffer sseq (stepNumbered step) coding noise samples level wait addr out) out
 
   unfoldable pub stepSseq : ℕ → ℕ
-  stepSseq room = ifTaken (stepRefusal step) (sendSseq sseq (stepOf step) coding noise samples level wait addr room) sseq
+  stepSseq room = ifTaken (stepRefusal step) (sendSseq sseq (stepNumbered step) coding noise samples level wait addr room) sseq
 
 -- the endpoint's record is six numbers: B, RSEQ, last clock, end, M_LAST, last noise
 abbrev pub recordNumbers : Endpoint → List ℕ

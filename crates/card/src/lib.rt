@@ -13,11 +13,10 @@ ghost use Rattle.endpoint.specs.Fill.{fillOf};
 ghost use Rattle.endpoint.specs.Play.{freshRecord};
 ghost use Rattle.endpoint.specs.Read.{readAnswer};
 ghost use Rattle.endpoint.specs.Signal.{signalAnswer};
-ghost use Rattle.card.specs.Card.{short, shortTwo, put, written, flag, sentNumbers, linkNumbers, takenNumbers, noiseNumbers, heardNumbers, arrivalNumbers, signalNumbers, stepOf, stepAnswer, stepBuffer, stepSseq, recordNumbers, recordOf, recordRefusal, keptArrival, keptAfter, Arrives};
+ghost use Rattle.card.specs.Card.{short, shortTwo, put, written, flag, sentNumbers, linkNumbers, takenNumbers, noiseNumbers, heardNumbers, arrivalNumbers, signalNumbers, stepAnswer, stepBuffer, stepSseq, recordNumbers, recordOf, recordRefusal, keptArrival, keptAfter, Arrives};
 use coding::Noise;
 use endpoint::Endpoint;
 use onward::Sent;
-use origin::Step;
 use refusals::or_else;
 use refusals::refusal_16;
 use refusals::refuse;
@@ -48,18 +47,6 @@ fn flag(holds: bool) -> u64
     if holds { 1 } else { 0 }
 }
 
-fn step_of(n: u8) -> Step
-    ensures { λ r. ⌜ r ≡ stepOf n ⌝ }
-{
-    if n == 0 {
-        return Step::Start;
-    }
-    if n == 1 {
-        return Step::Data;
-    }
-    Step::Stop
-}
-
 fn step_send(
     sseq: &mut u8,
     step: u8,
@@ -82,7 +69,7 @@ fn step_send(
     }
     origin::send(
         sseq,
-        step_of(step),
+        origin::step_numbered(step as usize),
         coding,
         noise,
         samples,

@@ -1,6 +1,6 @@
 -- Document 01, "Origin and node": SSEQ, 0 outside a burst and 1 to 15 inside, and what each step sends and sets.
 use Prim.Native.Nat.{ℕ}
-use mathlib.Core.Bool.{not}
+use mathlib.Core.Bool.{not, cond}
 use lib.Dec.{ltb, eqb}
 use Rattle.octets.specs.Sequence.{nextNumber}
 use mathlib.Core.List.{List, [], _∷_}
@@ -40,3 +40,7 @@ sseqSet Stop sseq = 0
 unfoldable pub sseqAfter : ℕ → List Step → ℕ
 sseqAfter sseq [] = sseq
 sseqAfter sseq (step ∷ steps) = sseqAfter (ifTaken (refusal13 step sseq) (sseqSet step sseq) sseq) steps
+
+-- a step by its number: 0 START, 1 DATA, 2 STOP
+abbrev pub stepNumbered : ℕ → Step
+stepNumbered n = cond (eqb n 0) Start (cond (eqb n 1) Data Stop)

@@ -5,7 +5,7 @@ ghost use Prim.Native.Nat.{ℕ, _+_, _*_, _/_, _%_, _^_, _<_, _≤_, min};
 ghost use lib.ListN.{length, drop};
 ghost use Rattle.coding.specs.Coding.{droppableBits};
 ghost use Rattle.onward.specs.Onward.{waitOf};
-ghost use Rattle.origin.specs.Burst.{refusal14, refusal13, sequenceSent, moreSent, sseqSet};
+ghost use Rattle.origin.specs.Burst.{refusal14, refusal13, sequenceSent, moreSent, sseqSet, stepNumbered};
 ghost use Rattle.origin.specs.Send.{madeHead, sendWritten, sendRefusal, sendAnswer, sendBuffer, sendSseq};
 ghost use Rattle.origin.specs.Signal.{signalWritten, signalRefusal, signalAnswer, signalBuffer};
 use coding::Coding;
@@ -18,6 +18,19 @@ pub enum Step {
     Start,
     Data,
     Stop,
+}
+
+// A step by its number; a number above 2 is for the caller to refuse.
+pub fn step_numbered(n: usize) -> Step
+    ensures { λ r. ⌜ r ≡ stepNumbered n ⌝ }
+{
+    if n == 0 {
+        return Step::Start;
+    }
+    if n == 1 {
+        return Step::Data;
+    }
+    Step::Stop
 }
 
 fn refusal_14(sseq: u8) -> u8

@@ -10,9 +10,9 @@ use Rattle.refusals.specs.Refusals.{ifTaken}
 use Rattle.frame.specs.Fields.{stamp, fieldC}
 use Rattle.onward.specs.Onward.{waitOf, onward}
 use Rattle.node.specs.Node.{forwardRefusal}
+use Rattle.origin.specs.Burst.{stepNumbered}
 use Rattle.origin.specs.Send.{sendRefusal, sendWritten, sendSseq}
 use Rattle.origin.specs.declared.Step.{Step}
-use Rattle.origin.specs.declared.Step.the-variants.{Start, Data, Stop}
 use Rattle.endpoint.specs.Play.{freshRecord}
 use Rattle.endpoint.specs.Arrival.{arrivalOf}
 use Rattle.endpoint.specs.declared.Endpoint.{Endpoint}
@@ -81,10 +81,6 @@ walkAddress = 128
 
 abbrev pub room : ℕ
 room = 138
-
--- 0 START, 1 DATA, 2 STOP
-abbrev pub stepNumbered : ℕ → Step
-stepNumbered n = cond (eqb n 0) Start (cond (eqb n 1) Data Stop)
 
 -- kind 1: step, coding, noise, level, wait, samples. A wait is run as clock 0 to that number
 abbrev pub sending : {A : Type 0} → (ℕ → Step → ℕ → ℕ → List ℕ → ℕ → ℕ → ℕ → A) → Carried → List ℕ → A

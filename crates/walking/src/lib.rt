@@ -6,7 +6,7 @@ ghost use lib.ListN.{length, take, drop};
 ghost use mathlib.Core.Bool.{true, false};
 ghost use Rattle.onward.specs.Sent.{sentAnswer, sentBuffer};
 ghost use Rattle.walking.specs.Text.{digits, number, afterNumber, line, stopLine, Put};
-ghost use Rattle.walking.specs.Walk.{atFirst, two, four, allowed, legal, told, made, stepNumbered, byOrigin, byNode, byEndpoint, outcome, counted, step};
+ghost use Rattle.walking.specs.Walk.{atFirst, two, four, allowed, legal, told, made, byOrigin, byNode, byEndpoint, outcome, counted, step};
 ghost use Rattle.walking.specs.Held.{carriedOf, toldOf, SevenAtMost, outcomeOf, Stepping};
 ghost use Rattle.walking.specs.Stream.{ready, Passed, Filled, Flushed};
 use endpoint::Endpoint;
@@ -141,15 +141,6 @@ fn legal(rest: &[u8]) -> bool
     allowed(two_octets(rest, 3), n, octets::at(rest, 4)) & (2 + n <= rest.len())
 }
 
-fn step_numbered(n: usize) -> Step
-    ensures { λ r. ⌜ r ≡ stepNumbered n ⌝ }
-{
-    if n == 0 {
-        return Step::Start;
-    }
-    if n == 1 { Step::Data } else { Step::Stop }
-}
-
 // The numbers of a line: the first three where the record is refused, else the first `done`, which is 6 or 7.
 fn tell(
     number: u64,
@@ -209,7 +200,7 @@ fn sized(frame: [u8; 138]) -> [u8; 138]
 fn by_origin(state: State, whole: &[u8]) -> Outcome
     ensures { λ r. ⌜ (outcomeOf r ≡ byOrigin (carriedOf state) (now (whole .entry))) × SevenAtMost (r .told) ⌝ }
 {
-    let step = step_numbered(octets::at(whole, 4));
+    let step = origin::step_numbered(octets::at(whole, 4));
     let coding = octets::at(whole, 5) as u8;
     let noise = octets::at(whole, 6) as u8;
     let level = octets::at(whole, 7) as u8;

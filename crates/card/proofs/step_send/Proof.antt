@@ -15,8 +15,8 @@ returns c =
     let t = c .if1 .taken in
     (refused-is _ _ _ _ _ e t (cc), (refused-is _ _ _ _ _ e t refl, refused-is _ _ _ _ _ e t refl))
 
-step-of-requires : tie.Need-step-of-requires
-step-of-requires c κs = search needs
+step-numbered-requires : tie.Need-step-numbered-requires
+step-numbered-requires c κs = search needs
 
 send-requires : tie.Need-send-requires
 send-requires c κs = search needs
@@ -29,11 +29,11 @@ unfolding stepAnswer stepBuffer stepSseq
 returns-2 c =
     let e = c .before .before .before .before .before .before .before .refuse .ensures in
     let z = c .before .before .before .before .before .before .if1 .left in
-    let o = c .before .before .before .before .step-of .ensures in
+    let o = c .before .before .before .before .step-numbered .ensures in
     let s = c .before .before .send .ensures in
     (done-is _ _ _ _ _ e z (rw o at (s .0)), (done-is _ _ _ _ _ e z (rw o at (s .1 .0)), done-is _ _ _ _ _ e z (rw o at (s .1 .1))))
 
 pub step-send-spec : {M : Type 1} → statement M
 step-send-spec =
     tie.close
-    (tie.spec refuse-requires returns step-of-requires send-requires same-length returns-2)
+    (tie.spec refuse-requires returns step-numbered-requires send-requires same-length returns-2)

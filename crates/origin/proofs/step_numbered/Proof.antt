@@ -1,6 +1,6 @@
 use borrow.Author.Tests.{eq-eqb, ne-eqb}
-use Rattle.walking.proofs.step_numbered.Statement.{statement}
-use Rattle.walking.proofs.step_numbered.Tie as tie
+use Rattle.origin.proofs.step_numbered.Statement.{statement}
+use Rattle.origin.proofs.step_numbered.Tie as tie
 
 returns : tie.Need-returns
 returns c = simp (eq-eqb _ _ (c .if1 .taken))
