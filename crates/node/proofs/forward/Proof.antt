@@ -1,6 +1,9 @@
-use mathlib.Core.Path.{refl, sym, _∙_}
+use Prim.Native.Nat.{ℕ}
+use mathlib.Core.Path.{refl, sym, ap, _∙_}
+use mathlib.Core.List.{_++_}
+use lib.ListN.{drop}
 use Rattle.refusals.proofs.RefusalLaws.{refused-is, done-is}
-use Rattle.onward.specs.Onward.{waitOf}
+use Rattle.onward.specs.Onward.{waitOf, onward}
 use Rattle.onward.specs.Sent.{sentAnswer, sentBuffer}
 use Rattle.node.specs.Node.{forwardAnswer, forwardBuffer}
 use Rattle.node.proofs.ForwardLaws.{sendable}
@@ -47,9 +50,11 @@ returns-2 c =
     let s = c .before .before .send-on in
     let e = k .ensures (waitOf (a .from) (a .to)) in
     let m = n .ensures (waitOf (a .from) (a .to)) (a .address) in
-    let x = s .ensures in
+    let f = a .frame .now in
     let v = w .ensures .0 in
-    (done-is _ (k .result) _ _ _ e z (cc), done-is _ (k .result) _ _ _ e z (cc))
+    let sent = s .ensures ∙ ap (λ (t : ℕ). onward (a .level) t (a .address) f ++ drop (n .result) (a .out .now)) v
+    ∙ ap (λ (i : ℕ). onward (a .level) (waitOf (a .from) (a .to)) (a .address) f ++ drop i (a .out .now)) m in
+    (done-is _ (k .result) _ _ _ e z (cc), done-is _ (k .result) _ _ _ e z sent)
 
 pub forward-spec : {M : Type 1} → statement M
 forward-spec =

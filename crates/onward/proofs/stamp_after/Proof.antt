@@ -1,3 +1,5 @@
+use Prim.Native.Nat.{ℕ, _+_, min}
+use mathlib.Core.Path.{ap, _∙_}
 use Rattle.onward.specs.Onward.{stampAfter}
 use borrow.Author.Needs.{needs}
 use Rattle.onward.proofs.stamp_after.Statement.{statement}
@@ -17,7 +19,7 @@ cast-result c = search needs
 
 returns : tie.Need-returns
 unfolding stampAfter
-returns c = cc
+returns c = c .lesser .ensures ∙ ap (λ (x : ℕ). min 200 (x + c .before .before .args .wait)) (c .before .wide .ensures .0)
 
 pub stamp-after-spec : {M : Type 1} → statement M
 stamp-after-spec =
