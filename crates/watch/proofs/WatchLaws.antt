@@ -1,0 +1,51 @@
+-- Laws of the clocks, and of the row that an event leaves.
+use Prim.Native.Nat.{ℕ, _+_, _-_, _≤_, _<_}
+use mathlib.Core.Path.{_≡_}
+use mathlib.Core.Bool.{true, false}
+use native.Mathlib.Omega.{arith}
+use lib.Dec.{leb}
+use mathlib.Core.Bool.{Bool, cond}
+use mathlib.Core.Path.{refl, sym}
+use Rattle.watch.specs.declared.Originating.{Originating}
+use Rattle.watch.specs.declared.Terminating.{Terminating}
+use Rattle.watch.specs.declared.Coming.{Coming}
+use Rattle.watch.specs.declared.Sends.{Sends}
+use Rattle.watch.specs.declared.Sends.the-variants.{Nothing, Refresh}
+use Rattle.watch.specs.declared.Conditioning.{Conditioning}
+use Rattle.watch.specs.declared.Row.{Row}
+use Rattle.watch.specs.declared.Watch.{Watch}
+use Rattle.watch.specs.declared.Event.{Event}
+use Rattle.watch.specs.Table.{table, sendsBoth, conditioned, change}
+use Rattle.watch.specs.Watch.{keepAlive, brought, sentAfter, judged, eventRow}
+use Rattle.watch.proofs.TableLaws.{row-left}
+use borrow.Author.Tests.{le-leb, lt-leb}
+
+-- the sum is judged by the difference
+pub is-past : (clock from ms : ℕ) → from ≤ clock → ms ≤ clock - from → leb (from + ms) clock ≡ true
+is-past clock from ms h k = le-leb (from + ms) clock (omega arith)
+
+pub not-past : (clock from ms : ℕ) → clock - from < ms → leb (from + ms) clock ≡ false
+not-past clock from ms h = lt-leb (from + ms) clock (omega arith)
+
+pub before-from : (clock from ms : ℕ) → clock < from → leb (from + ms) clock ≡ false
+before-from clock from ms h = lt-leb (from + ms) clock (omega arith)
+
+-- a refresh is due after this was sent
+abbrev pub dueAfter : Watch → ℕ → Sends → Bool
+dueAfter w clock sends = leb (sentAfter sends clock (w .lastsent) + w .refresh) clock
+
+module _ (w : Watch) (clock : ℕ) (e : Event) where
+  -- the row that an event leaves, worked out column by column
+  pub row-is : (ro b : Coming) (t₁ t₂ : Terminating) (o₂ : Originating) (s₁ s₂ : Sends) (k : Conditioning)
+      → ro ≡ keepAlive w clock → b ≡ brought w e
+      → t₁ ≡ table (w .originating) (w .terminating) ro .terminating
+      → t₂ ≡ table (w .originating) t₁ b .terminating
+      → o₂ ≡ table (w .originating) t₁ b .originating
+      → s₁ ≡ table (w .originating) t₁ b .sends
+      → s₂ ≡ sendsBoth s₁ (cond (dueAfter w clock s₁) Refresh Nothing)
+      → k ≡ change (conditioned (w .terminating)) (conditioned t₂)
+      → _≡_ {A = Row} (record { originating = o₂; terminating = t₂; sends = s₂; conditioning = k }) (eventRow w clock e)
+  unfolding eventRow judged
+  row-is ro b t₁ t₂ o₂ s₁ s₂ k hr hb h₁ h₂ ho hs₁ hs₂ hk =
+      rw (hk, hs₂, hs₁, ho, h₂, h₁, hb, hr)
+      (sym (row-left (w .originating) (w .terminating) (leb (w .lasttaken + w .keepalive) clock) (brought w e) (dueAfter w clock)))

@@ -1,0 +1,38 @@
+use Rattle.watch.specs.Watch.{answered}
+use borrow.Author.Needs.{needs}
+use Rattle.watch.proofs.answered.Statement.{statement}
+use Rattle.watch.proofs.answered.Tie as tie
+
+bits-after-requires : tie.Need-bits-after-requires
+bits-after-requires c κs = search needs
+
+if-sent-requires : tie.Need-if-sent-requires
+if-sent-requires c κs = search needs
+
+na-of-requires : tie.Need-na-of-requires
+na-of-requires c κs = search needs
+
+if-sent-requires-2 : tie.Need-if-sent-requires-2
+if-sent-requires-2 c κs = search needs
+
+sent-after-requires : tie.Need-sent-after-requires
+sent-after-requires c κs = search needs
+
+taken-after-requires : tie.Need-taken-after-requires
+taken-after-requires c κs = search needs
+
+returns : tie.Need-returns
+unfolding answered
+returns c = cc
+
+pub answered-spec : {M : Type 1} → statement M
+answered-spec =
+    tie.close
+    (tie.spec
+    bits-after-requires
+    if-sent-requires
+    na-of-requires
+    if-sent-requires-2
+    sent-after-requires
+    taken-after-requires
+    returns)

@@ -1,0 +1,51 @@
+use Rattle.watch.proofs.TableLaws.{due-sends}
+use Rattle.watch.specs.Table.{table}
+use Rattle.watch.specs.declared.Terminating.the-variants.{Norm as NORM}
+use Rattle.watch.specs.declared.Originating.the-variants.{Norm as NORMAL}
+use Rattle.watch.specs.declared.Coming.{Coming}
+use mathlib.Core.Path.{ap, _∙_}
+use lib.Dec.{leb}
+use Prim.Native.Nat.{_+_}
+use borrow.Author.Needs.{needs}
+use Rattle.watch.proofs.event_sends.Statement.{statement}
+use Rattle.watch.proofs.event_sends.Tie as tie
+
+enum-told : tie.Need-enum-told
+enum-told c = search needs
+
+when-past-requires : tie.Need-when-past-requires
+when-past-requires c κs = search needs
+
+sends-next-requires : tie.Need-sends-next-requires
+sends-next-requires c κs = search needs
+
+enum-told-2 : tie.Need-enum-told-2
+enum-told-2 c = search needs
+
+enum-told-3 : tie.Need-enum-told-3
+enum-told-3 c = search needs
+
+returns : tie.Need-returns
+returns c =
+    let a = c .before .before .before .before .args in
+    rw (c .before .before .enum-told .given .1)
+    (c .sends-next .ensures NORMAL NORM ∙ ap (λ (x : Coming). table NORMAL NORM x .sends) (c .before .when-past .ensures) ∙ due-sends NORMAL NORM (leb (a .lastsent + a .refresh) (a .clock)))
+
+returns-2 : tie.Need-returns-2
+returns-2 c = search needs
+
+returns-3 : tie.Need-returns-3
+returns-3 c = search needs
+
+pub event-sends-spec : {M : Type 1} → statement M
+event-sends-spec =
+    tie.close
+    (tie.spec
+    enum-told
+    when-past-requires
+    sends-next-requires
+    enum-told-2
+    enum-told-3
+    returns
+    returns-2
+    returns-3)

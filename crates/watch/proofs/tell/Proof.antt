@@ -1,0 +1,59 @@
+use Rattle.watch.specs.Watch.{eventRefusal, eventAnswer}
+use borrow.Author.Tests.{eq-eqb, ne-eqb}
+use Rattle.refusals.proofs.RefusalLaws.{refused-is, done-is}
+use borrow.Author.Needs.{needs}
+use Rattle.watch.proofs.tell.Statement.{statement}
+use Rattle.watch.proofs.tell.Tie as tie
+
+event-refusal-requires : tie.Need-event-refusal-requires
+event-refusal-requires c κs = search needs
+
+only-requires : tie.Need-only-requires
+only-requires c κs = search needs
+
+returns : tie.Need-returns
+unfolding eventAnswer
+returns c =
+    let a = c .before .before .before .args in
+    let n = c .before .before .event-refusal in
+    refused-is (eventRefusal (a .w) (a .clock) (a .event)) (n .result) _ _ _ (n .ensures) (c .before .if1 .taken) (cc)
+
+standing-requires : tie.Need-standing-requires
+standing-requires c κs = search needs
+
+answered-requires : tie.Need-answered-requires
+answered-requires c κs = search needs
+
+returns-2 : tie.Need-returns-2
+unfolding eventAnswer
+returns-2 c =
+    let a = c .before .before .before .before .before .before .args in
+    let n = c .before .before .before .before .before .event-refusal in
+    done-is (eventRefusal (a .w) (a .clock) (a .event)) (n .result) _ _ _ (n .ensures) (c .before .before .before .before .if1 .left) (simp (eq-eqb _ _ (c .before .before .if2 .taken)) (cc))
+
+event-row-requires : tie.Need-event-row-requires
+event-row-requires c κs = search needs
+
+answered-requires-2 : tie.Need-answered-requires-2
+answered-requires-2 c κs = search needs
+
+returns-3 : tie.Need-returns-3
+unfolding eventAnswer
+returns-3 c =
+    let a = c .before .before .before .before .before .before .args in
+    let n = c .before .before .before .before .before .event-refusal in
+    done-is (eventRefusal (a .w) (a .clock) (a .event)) (n .result) _ _ _ (n .ensures) (c .before .before .before .before .if1 .left) (simp (ne-eqb _ _ (c .before .before .if2 .left)) (cc))
+
+pub tell-spec : {M : Type 1} → statement M
+tell-spec =
+    tie.close
+    (tie.spec
+    event-refusal-requires
+    only-requires
+    returns
+    standing-requires
+    answered-requires
+    returns-2
+    event-row-requires
+    answered-requires-2
+    returns-3)
