@@ -1,2 +1,5 @@
+pub mod EventLaws
+pub mod OneOutcome
+pub mod SequenceLaws
 pub mod TableLaws
 pub mod WatchLaws
