@@ -1,17 +1,40 @@
 -- An arrival is the decision on the frame's fields: the laws of the decision, over the octets.
 use Prim.Native.Nat.{ℕ, _+_, _≤_}
-use mathlib.Core.Path.{_≡_, sym, ap, _∙_}
+use mathlib.Core.Path.{_≡_, sym, ap, ap₂, _∙_}
 use mathlib.Core.List.{List}
 use native.Mathlib.Omega.{arith}
 use Rattle.frame.specs.Fields.{stamp, moreBit, sequence, noise}
 use Rattle.frame.specs.Orders.{voiceRefusal}
 use Rattle.endpoint.specs.declared.Endpoint.{Endpoint}
-use Rattle.endpoint.specs.Play.{refusal14, dueAt, playRefusal, afterScheduled}
+use Rattle.endpoint.specs.declared.Decision.{Decision}
+use Rattle.endpoint.specs.declared.Heard.{Heard}
+use Rattle.endpoint.specs.declared.Arrived.{Arrived}
+use Rattle.endpoint.specs.Play.{refusal14, dueAt, playRefusal, afterScheduled, decision}
 use Rattle.endpoint.specs.Read.{heardOf, readAnswer}
-use Rattle.endpoint.specs.Arrival.{frameDecision, arrivalBy, arrivalOf}
+use Rattle.endpoint.specs.Arrival.{resetOf, frameDecision, arrivalBy, arrivalOf}
 use Rattle.endpoint.proofs.PlayLaws.{decided-number, decided-scheduled, decided-ranged, decided-near, decided-ahead, decided-apart, decided-kept, decided-readable}
 
+-- an arrival put together of the decision, what is heard and the reset
+abbrev pub arrivedWith : Decision → Heard → ℕ → Arrived
+arrivedWith d h reset = record {
+  answer = record { refusal = d .refusal; due = d .due; reset = reset; s = h .s; dropped = h .dropped; samples = h .samples };
+  after = d .after;
+}
+
 module _ (e : Endpoint) (f : List ℕ) (clock : ℕ) where
+  -- the decision on numbers that are the frame's fields
+  pub decided-fields : (given late seq more level : ℕ) (d : Decision)
+      → given ≡ voiceRefusal f → late ≡ stamp f → seq ≡ sequence f → more ≡ moreBit f → level ≡ noise f
+      → d ≡ decision e clock given late seq more level → d ≡ frameDecision e f clock
+  unfolding frameDecision
+  decided-fields given late seq more level d p q r s t u = rw (← p, ← q, ← r, ← s, ← t) u
+
+  pub arrived-is : (d : Decision) (h : Heard) (reset : ℕ)
+      → d ≡ frameDecision e f clock → h ≡ heardOf (d .refusal) f → reset ≡ resetOf (d .refusal) f
+      → arrivedWith d h reset ≡ arrivalOf e f clock
+  unfolding arrivalOf arrivalBy
+  arrived-is d h reset p q r = ap₂ (arrivedWith d) q r ∙ ap (λ (x : Decision). arrivalBy x f) p
+
   pub arrival-ranged : refusal14 e ≡ 0 → refusal14 (arrivalOf e f clock .after) ≡ 0
   unfolding arrivalOf arrivalBy frameDecision
   arrival-ranged h = decided-ranged e clock (voiceRefusal f) (stamp f) (sequence f) (moreBit f) (noise f) h (omega arith) (omega arith)

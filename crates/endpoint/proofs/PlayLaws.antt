@@ -1,9 +1,9 @@
 -- What is known of a record in range and of a frame that is scheduled, and that such a frame keeps the record in range.
 use Prim.Native.Nat.{ℕ, zero, suc, _+_, _-_, _<_, _≤_, max}
-use mathlib.Core.Path.{_≡_, refl, sym, ap, subst, _∙_}
+use mathlib.Core.Path.{_≡_, refl, sym, ap, ap₂, subst, _∙_}
 use mathlib.Core.Bool.{Bool, true, false, cond, _&&_}
 use native.Mathlib.Omega.{arith}
-use native.Mathlib.Nat.{le-max-left, le-max-right, le-refl}
+use native.Mathlib.Nat.{le-max-left, le-max-right, le-refl, le-of-lt, max-eq-left, max-eq-right}
 use lib.Dec.{ltb, leb, eqb}
 use borrow.Author.Tests.{ltb-true, ltb-false, lt-ltb, le-ltb, leb-false}
 use Rattle.octets.specs.Sequence.{nextNumber}
@@ -98,6 +98,21 @@ module _ (e : Endpoint) (clock : ℕ) where
     go true h = ltb-false (e .end) clock h
     go false h = omega (arith, le-max-left (clock + hold (e .buildout) stamp) (e .end))
 
+  -- the due time that a frame in turn has, and the two that any other may have
+  module _ (stamp seq : ℕ) (turn : Bool) (is : turn ≡ inTurn e seq) where
+    pub due-turn : turn ≡ true → e .end ≡ dueAt e clock stamp seq
+    unfolding dueAt
+    due-turn t = rw (sym is ∙ t)
+
+    pub due-end : (held : ℕ) → held ≡ hold (e .buildout) stamp → turn ≡ false → clock + held ≤ e .end → e .end ≡ dueAt e clock stamp seq
+    unfolding dueAt
+    due-end held h t l = rw (sym is ∙ t) (sym (max-eq-right {n = clock + hold (e .buildout) stamp} {m = e .end} (rw h at l)))
+
+    pub due-held : (held : ℕ) → held ≡ hold (e .buildout) stamp → turn ≡ false → e .end < clock + held → clock + held ≡ dueAt e clock stamp seq
+    unfolding dueAt
+    due-held held h t l =
+        rw (sym is ∙ t) (ap (λ (x : ℕ). clock + x) h ∙ sym (max-eq-left {n = clock + hold (e .buildout) stamp} {m = e .end} (le-of-lt (rw h at l))))
+
   module _ (given stamp seq : ℕ) where
     pub scheduled : playRefusal e clock given stamp seq ≡ 0 → Scheduled e clock given stamp seq
     unfolding playRefusal
@@ -134,11 +149,23 @@ module _ (e : Endpoint) (clock : ℕ) where
     pub first-early : first ≡ 0 → clock ≤ clockLimit
     first-early z = clocked (orElse-zero (refusal18 e clock) given (orElse-zero (refusal14 e) _ z .1) .0) .1
 
+    -- the same two, of numbers that were judged one by one
+    pub first-is : (a b m n : ℕ) → a ≡ refusal14 e → b ≡ refusal18 e clock → m ≡ b orElse given → n ≡ a orElse m → n ≡ first
+    first-is a b m n p q r s = s ∙ ap₂ _orElse_ p (r ∙ ap (λ (x : ℕ). x orElse given) q)
+
+    pub last-is : (due late far n : ℕ) (long : Bool) → due ≡ dueAt e clock stamp seq → late ≡ refusal17 e clock stamp seq
+        → long ≡ ltb (clock + 439) due → far ≡ refuse long 20 → n ≡ late orElse far → n ≡ last
+    last-is due late far n long p q r s t =
+        t ∙ ap₂ _orElse_ q (s ∙ ap (λ (b : Bool). refuse b 20) (r ∙ ap (ltb (clock + 439)) p))
+
     pub first-stands : (n : ℕ) → n ≡ first → (n ≡ 0 → ⊥) → n ≡ playRefusal e clock given stamp seq
     first-stands n p h = orElse-take first last n p h ∙ sym first-last
 
     pub last-stands : (m n : ℕ) → m ≡ first → m ≡ 0 → n ≡ last → n ≡ playRefusal e clock given stamp seq
     last-stands m n p z q = orElse-pass first last m n p z q ∙ sym first-last
+
+    pub due-fits : (due : ℕ) → due ≡ dueAt e clock stamp seq → playRefusal e clock given stamp seq ≡ 0 → due ≤ clockLimit + 439
+    due-fits due p z = let s = scheduled z in omega arith
 
     -- on a record in range 14 does not apply, and the order goes on after it
     pub play-ranged : refusal14 e ≡ 0
@@ -160,6 +187,10 @@ module _ (e : Endpoint) (clock : ℕ) where
           ≡ scheduledAt e clock seq more noise (dueAt e clock stamp seq)
       unfolding decision
       decided-scheduled z = if-taken (playRefusal e clock given stamp seq) _ _ z
+
+      pub decided-at : (due : ℕ) (d : Decision) → due ≡ dueAt e clock stamp seq → playRefusal e clock given stamp seq ≡ 0
+          → d ≡ scheduledAt e clock seq more noise due → d ≡ decision e clock given stamp seq more noise
+      decided-at due d p z q = q ∙ ap (scheduledAt e clock seq more noise) p ∙ sym (decided-scheduled z)
 
       pub decided-refused : (n : ℕ) → n ≡ playRefusal e clock given stamp seq → (n ≡ 0 → ⊥)
           → decision e clock given stamp seq more noise ≡ refusedWith e n

@@ -3,6 +3,7 @@ use Prim.Native.Nat.{ℕ, _+_, _-_, _*_, _/_, _%_, min, _≤_, _<_}
 use mathlib.Core.Path.{_≡_, refl, ap, ap₂, sym, _∙_}
 use mathlib.Core.Bool.{Bool, true, false}
 use mathlib.Core.List.{List, [], _∷_, _++_}
+use native.Mathlib.Nat.{le-refl}
 use native.Mathlib.Omega.{arith}
 use lib.Dec.{ltb}
 use lib.ListN.{length, take, drop, length-append}
@@ -10,7 +11,7 @@ use lib.Seq.{take-append-le, take-at, drop-at, drop-drop}
 use borrow.Author.Tests.{ltb-false, le-ltb, not-false}
 use Rattle.octets.proofs.BoolLaws.{or-false}
 use Rattle.refusals.specs.Refusals.{_orElse_, addressBad, refusal10, refusal12, refusal15, refusal16}
-use Rattle.refusals.proofs.RefusalLaws.{orElse-zero, refuse-zero, in-range, done-is}
+use Rattle.refusals.proofs.RefusalLaws.{orElse-zero, refuse-zero, in-range, refused-is, done-is}
 use Rattle.fcs.specs.Fcs.{fcsOctets}
 use Rattle.coding.specs.Coding.{sampleBits, droppableBits, frameLength, reserved, refusal6}
 use Rattle.coding.proofs.CodingLaws.{s-le-8, d-le-3, not-reserved}
@@ -22,23 +23,33 @@ use Rattle.onward.specs.Onward.{stampAfter, dropped, onwardHead, onwardField, f
 use Rattle.onward.specs.Sent.{sentAnswer, sentBuffer}
 use Rattle.onward.proofs.OnwardLaws.{framed-length, framed-good, onward-length, onward-C, onward-M, closed, sealed-behind}
 use Rattle.origin.specs.declared.Step.{Step}
-use Rattle.origin.specs.Burst.{refusal13, refusal14, sequenceSent, moreSent, sseqAfter}
+use Rattle.origin.specs.Burst.{refusal13, refusal14, sequenceSent, moreSent, sseqSet, sseqAfter}
 use Rattle.origin.proofs.BurstLaws.{sequence-le, more-le, kept-le}
-use Rattle.origin.specs.Send.{madeHead, made, sendWritten, sendRefusal, sendSseq}
+use Rattle.origin.specs.Send.{madeHead, made, sendWritten, sendRefusal, sendAnswer, sendBuffer, sendSseq}
 
 -- the first of an order, each part by its definition
 pub orElse-is : {r a b x y : ℕ} → r ≡ a orElse b → a ≡ x → b ≡ y → r ≡ x orElse y
 orElse-is e p q = e ∙ ap₂ _orElse_ p q
 
--- what a call answers and leaves once its frame is written
+-- what a call answers and leaves where it is refused
+module _ (q r : ℕ) (f : List ℕ) (e : r ≡ q) (h : r ≡ 0 → ⊥) where
+  pub answer-refused : record { refusal = r; length = 0 } ≡ sentAnswer q f
+  unfolding sentAnswer
+  answer-refused = refused-is q r _ _ _ e h (ap (λ (k : ℕ). record { refusal = k; length = 0 }) e)
+
+  pub buffer-refused : (out : List ℕ) → out ≡ sentBuffer q f out
+  unfolding sentBuffer
+  buffer-refused out = refused-is q r _ _ _ e h refl
+
+-- and once its frame is written
 module _ (q r n : ℕ) (f : List ℕ) (e : r ≡ q) (z : r ≡ 0) (en : n ≡ length f) where
   pub answer-done : record { refusal = 0; length = n } ≡ sentAnswer q f
   unfolding sentAnswer
-  answer-done = done-is q r _ _ _ e z (cc)
+  answer-done = done-is q r _ _ _ e z (ap (λ (k : ℕ). record { refusal = 0; length = k }) en)
 
   pub buffer-done : (out x : List ℕ) → x ≡ f ++ drop n out → x ≡ sentBuffer q f out
   unfolding sentBuffer
-  buffer-done out x ex = done-is q r _ _ _ e z (cc)
+  buffer-done out x ex = done-is q r _ _ _ e z (ex ∙ ap (λ (k : ℕ). f ++ drop k out) en)
 
 -- the blocks packed behind octets 1 to 8, and the rest as it came
 packed-in : (H O x xs : List ℕ) (S k : ℕ) → length H ≡ 8 → x ≡ H ++ drop 8 O → packed x xs S k ≡ H ++ field xs S k ++ drop (8 + 16 * k) O
@@ -48,7 +59,15 @@ packed-in H O x xs S k l e =
     sym (drop-drop (16 * k) 8 x) ∙ ap (drop (16 * k)) (ap (drop 8) e ∙ drop-at H (drop 8 O) 8 l) ∙ drop-drop (16 * k) 8 O in
     rw (t, d)
 
+-- an address in range is one of 13 bits
+pub inside-low : (a : ℕ) → addressBad a ≡ false → a < 8192
+inside-low a h = let r = in-range a h in omega arith
+
 -- ---- the frame as it is made
+
+pub head-eight : (addr t more seq n : ℕ) (x : List ℕ) → x ≡ madeHead addr t more seq n → 8 ≤ length x
+unfolding madeHead
+head-eight addr t more seq n x e = rw e (le-refl 8)
 
 -- octet 5 with one number of at most 3 as M and as C
 twice-M : (d : ℕ) → d ≤ 3 → (d * 16 + d) / 16 % 4 ≡ d
@@ -223,9 +242,49 @@ module _ (sseq : ℕ) (step : Step) (t n : ℕ) (samples : List ℕ) (level wait
       go false e = ap (λ (size : ℕ). refusal14 sseq orElse refusal13 step sseq orElse refusal6 t orElse refusal12 n 0
           orElse refusal11 samples (sampleBits t) orElse refusal10 level orElse refusal15 addr orElse refusal16 room size) (sym (written-length e))
 
+  -- what the call answers and leaves, where it is refused and where its frame is written
+  module _ (out : List ℕ) (r : ℕ) (e : r ≡ sendRefusal sseq step t n samples level wait addr (length out)) where
+    pub send-refused : (r ≡ 0 → ⊥)
+        → (record { refusal = r; length = 0 } ≡ sendAnswer sseq step t n samples level wait addr out)
+        × ((out ≡ sendBuffer sseq step t n samples level wait addr out)
+        × (sseq ≡ sendSseq sseq step t n samples level wait addr (length out)))
+    unfolding sendAnswer sendBuffer sendSseq
+    send-refused h = (
+      answer-refused (sendRefusal sseq step t n samples level wait addr (length out)) r (sendWritten sseq step t n samples level wait addr) e h,
+      (
+        buffer-refused (sendRefusal sseq step t n samples level wait addr (length out)) r (sendWritten sseq step t n samples level wait addr) e h out,
+        refused-is (sendRefusal sseq step t n samples level wait addr (length out)) r _ _ _ e h refl,
+      ),
+    )
+
+    pub none-refused : r ≡ 0 → sendRefusal sseq step t n samples level wait addr (length out) ≡ 0
+    none-refused z = sym e ∙ z
+
+    pub send-done : (w size after : ℕ) (x : List ℕ) → r ≡ 0 → w ≡ wait
+        → size ≡ length (sendWritten sseq step t n samples level w addr) → x ≡ sendWritten sseq step t n samples level w addr ++ drop size out
+        → after ≡ sseqSet step sseq
+        → (record { refusal = 0; length = size } ≡ sendAnswer sseq step t n samples level wait addr out)
+        × ((x ≡ sendBuffer sseq step t n samples level wait addr out)
+        × (after ≡ sendSseq sseq step t n samples level wait addr (length out)))
+    unfolding sendAnswer sendBuffer sendSseq
+    send-done w size after x z ew es ex ea =
+        let l : size ≡ length (sendWritten sseq step t n samples level wait addr) = es ∙ ap (λ (k : ℕ). length (sendWritten sseq step t n samples level k addr)) ew in
+        let v : x ≡ sendWritten sseq step t n samples level wait addr ++ drop size out = ex ∙ ap (λ (k : ℕ). sendWritten sseq step t n samples level k addr ++ drop size out) ew in (
+          answer-done (sendRefusal sseq step t n samples level wait addr (length out)) r size (sendWritten sseq step t n samples level wait addr) e z l,
+          (
+            buffer-done (sendRefusal sseq step t n samples level wait addr (length out)) r size (sendWritten sseq step t n samples level wait addr) e z l out x v,
+            done-is (sendRefusal sseq step t n samples level wait addr (length out)) r _ _ _ e z ea,
+          ),
+        )
+
   -- the room that the blocks kept and the ten octets around them have
   pub enough-room : (room : ℕ) → SendTaken sseq step t n samples level wait addr room → 8 + 16 * (sampleBits t - min (droppableBits t) level) + 2 ≤ room
   enough-room room k = omega (arith, k .enough, sent-length)
+
+  -- octets 1 to 8, made with what the step sends
+  pub made-by-step : (x : List ℕ) (more seq : ℕ) → more ≡ moreSent step → seq ≡ sequenceSent step sseq → x ≡ madeHead addr t more seq n
+      → x ≡ madeHead addr t (moreSent step) (sequenceSent step sseq) n
+  made-by-step x more seq p q e = e ∙ ap₂ (λ (k l : ℕ). madeHead addr t k l n) p q
 
   -- octets 1 to 8, the blocks kept and the seal, put into a buffer one after another
   pub written-in : (O head x₁ x₂ x₃ : List ℕ) (s kept : ℕ) → head ≡ madeHead addr t (moreSent step) (sequenceSent step sseq) n

@@ -1,13 +1,14 @@
 -- Laws of the signalling frame: what is known of a call that is not refused, how long its frame is, that it passes every check, and its fields.
 use Prim.Native.Nat.{ℕ, _+_, _-_, _/_, _≤_}
-use mathlib.Core.Path.{_≡_, refl, ap, _∙_}
+use mathlib.Core.Path.{_≡_, refl, sym, ap, ap₂, _∙_}
 use mathlib.Core.Bool.{false}
 use mathlib.Core.List.{List, [], _++_}
+use native.Mathlib.Nat.{le-refl}
 use native.Mathlib.Omega.{arith}
 use lib.ListN.{length, take, drop}
 use borrow.Author.Tests.{ltb-false, le-ltb}
 use Rattle.octets.proofs.BoolLaws.{or-false}
-use Rattle.refusals.specs.Refusals.{_orElse_, addressBad}
+use Rattle.refusals.specs.Refusals.{_orElse_, addressBad, refusal12, refusal15, refusal16}
 use Rattle.refusals.proofs.RefusalLaws.{orElse-zero, refuse-zero, in-range}
 use Rattle.fcs.specs.Fcs.{fcsOctets}
 use Rattle.frame.specs.Fields.{isVoice, stamp, moreBit, sequence, na, signalBits}
@@ -15,12 +16,45 @@ use Rattle.frame.specs.Orders.{signalRefusal as readerRefusal}
 use Rattle.frame.proofs.FrameLaws.{Passes, link-passed, layout-passed}
 use Rattle.onward.specs.Onward.{stampAfter, dropped, onwardHead, onwardField, framed, onward}
 use Rattle.onward.proofs.OnwardLaws.{framed-good, onward-length, closed, sealed-behind}
-use Rattle.origin.specs.Signal.{signalHead, signalWritten, signalRefusal}
+use Rattle.origin.specs.Signal.{signalHead, signalWritten, signalRefusal, signalAnswer, signalBuffer}
+use Rattle.origin.proofs.SendLaws.{answer-refused, buffer-refused, answer-done, buffer-done}
 
 module _ (bits n wait addr : ℕ) where
   pub signal-length : length (signalWritten bits n wait addr) ≡ 10
   unfolding signalWritten signalHead dropped framed fcsOctets
   signal-length = onward-length 0 wait addr (framed (signalHead addr n bits) [])
+
+  -- the order, of numbers that were judged one by one, the length by its number
+  pub signal-judged : (room r12 r15 r16 m r : ℕ) → r15 ≡ refusal15 addr → r16 ≡ refusal16 room 10 → m ≡ r15 orElse r16
+      → r12 ≡ refusal12 bits n → r ≡ r12 orElse m → r ≡ signalRefusal bits n wait addr room
+  unfolding signalRefusal
+  signal-judged room r12 r15 r16 m r p q s u v =
+      v ∙ ap₂ _orElse_ u (s ∙ ap₂ _orElse_ p (q ∙ ap (refusal16 room) (sym signal-length)))
+
+  -- what the call answers and leaves, where it is refused and where its frame is written
+  module _ (out : List ℕ) (r : ℕ) (e : r ≡ signalRefusal bits n wait addr (length out)) where
+    pub signal-refused : (r ≡ 0 → ⊥)
+        → (record { refusal = r; length = 0 } ≡ signalAnswer bits n wait addr out) × (out ≡ signalBuffer bits n wait addr out)
+    unfolding signalAnswer signalBuffer
+    signal-refused h = (
+      answer-refused (signalRefusal bits n wait addr (length out)) r (signalWritten bits n wait addr) e h,
+      buffer-refused (signalRefusal bits n wait addr (length out)) r (signalWritten bits n wait addr) e h out,
+    )
+
+    pub signal-done : (w size : ℕ) (x : List ℕ) → r ≡ 0 → w ≡ wait
+        → size ≡ length (signalWritten bits n w addr) → x ≡ signalWritten bits n w addr ++ drop size out
+        → (record { refusal = 0; length = size } ≡ signalAnswer bits n wait addr out) × (x ≡ signalBuffer bits n wait addr out)
+    unfolding signalAnswer signalBuffer
+    signal-done w size x z ew es ex =
+        let l : size ≡ length (signalWritten bits n wait addr) = es ∙ ap (λ (k : ℕ). length (signalWritten bits n k addr)) ew in
+        let v : x ≡ signalWritten bits n wait addr ++ drop size out = ex ∙ ap (λ (k : ℕ). signalWritten bits n k addr ++ drop size out) ew in (
+          answer-done (signalRefusal bits n wait addr (length out)) r size (signalWritten bits n wait addr) e z l,
+          buffer-done (signalRefusal bits n wait addr (length out)) r size (signalWritten bits n wait addr) e z l out x v,
+        )
+
+  pub signal-eight : (x : List ℕ) → x ≡ signalHead addr n bits → 8 ≤ length x
+  unfolding signalHead
+  signal-eight x e = rw e (le-refl 8)
 
   -- octets 1 to 8 and the seal, put into a buffer one after the other
   pub signal-in : (O head x₁ x₂ : List ℕ) → head ≡ signalHead addr n bits → x₁ ≡ onwardHead 0 wait addr head ++ drop 8 O

@@ -1,25 +1,19 @@
-use mathlib.Core.Path.{_≡_}
-use mathlib.Core.Bool.{true, false}
-use Prim.Native.Nat.{_+_}
-use native.Mathlib.Nat.{max-eq-left, max-eq-right}
-use native.Mathlib.Omega.{arith}
-use Rattle.endpoint.specs.Play.{inTurn, hold, dueAt}
 use borrow.Author.Needs.{needs}
+use Rattle.endpoint.proofs.PlayLaws.{due-turn, due-end, due-held}
 use Rattle.endpoint.proofs.due_at.Statement.{statement}
 use Rattle.endpoint.proofs.due_at.Tie as tie
 
 in-turn-requires : tie.Need-in-turn-requires
-in-turn-requires c κs = search needs
+in-turn-requires c κs = tt
 
 returns : tie.Need-returns
-unfolding dueAt
 returns c =
     let a = c .before .before .args in
-    let t : inTurn (a .e) (a .seq) ≡ true = cc in
-    simp t
+    let t = c .before .in-turn in
+    due-turn (a .e) (a .clock) (a .stamp) (a .seq) (t .result) (t .ensures) (c .if1 .taken)
 
 hold-requires : tie.Need-hold-requires
-hold-requires c κs = search needs
+hold-requires c κs = tt
 
 cast-t : tie.Need-cast-t
 cast-t c = search needs
@@ -28,18 +22,18 @@ add-t : tie.Need-add-t
 add-t c = search needs
 
 returns-2 : tie.Need-returns-2
-unfolding dueAt
 returns-2 c =
     let a = c .before .before .before .before .args in
-    let t : inTurn (a .e) (a .seq) ≡ false = cc in
-    simp (t, max-eq-right {n = a .clock + hold (a .e .buildout) (a .stamp)} {m = a .e .end} (omega arith))
+    let t = c .before .before .before .in-turn in
+    let h = c .before .hold in
+    due-end (a .e) (a .clock) (a .stamp) (a .seq) (t .result) (t .ensures) (h .result) (h .ensures) (c .before .before .if1 .left) (c .if2 .taken)
 
 returns-3 : tie.Need-returns-3
-unfolding dueAt
 returns-3 c =
     let a = c .before .before .before .before .args in
-    let t : inTurn (a .e) (a .seq) ≡ false = cc in
-    simp (t, max-eq-left {n = a .clock + hold (a .e .buildout) (a .stamp)} {m = a .e .end} (omega arith)) (omega arith)
+    let t = c .before .before .before .in-turn in
+    let h = c .before .hold in
+    due-held (a .e) (a .clock) (a .stamp) (a .seq) (t .result) (t .ensures) (h .result) (h .ensures) (c .before .before .if1 .left) (c .if2 .left)
 
 pub due-at-spec : {M : Type 1} → statement M
 due-at-spec =

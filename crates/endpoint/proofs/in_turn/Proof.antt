@@ -1,10 +1,11 @@
+use mathlib.Core.Path.{refl}
 use Rattle.endpoint.specs.Play.{inTurn}
 use Rattle.endpoint.proofs.in_turn.Statement.{statement}
 use Rattle.endpoint.proofs.in_turn.Tie as tie
 
 returns : tie.Need-returns
 unfolding inTurn
-returns c = cc
+returns c = refl
 
 pub in-turn-spec : {M : Type 1} → statement M
 in-turn-spec = tie.close (tie.spec returns)

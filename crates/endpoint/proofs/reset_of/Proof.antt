@@ -1,7 +1,6 @@
 use mathlib.Core.Path.{sym, ap, _∙_}
 use Rattle.coding.specs.Coding.{resetBit}
 use Rattle.endpoint.proofs.ReadLaws.{reset-refused, reset-new, reset-inside}
-use borrow.Author.Needs.{needs}
 use Rattle.endpoint.proofs.reset_of.Statement.{statement}
 use Rattle.endpoint.proofs.reset_of.Tie as tie
 
@@ -9,13 +8,13 @@ returns : tie.Need-returns
 returns c = let a = c .before .before .args in sym (reset-refused (a .n) (a .frame .now) (c .if1 .taken))
 
 sequence-of-requires : tie.Need-sequence-of-requires
-sequence-of-requires c κs = search needs
+sequence-of-requires c κs = tt
 
 coding-of-requires : tie.Need-coding-of-requires
-coding-of-requires c κs = search needs
+coding-of-requires c κs = tt
 
 reset-requires : tie.Need-reset-requires
-reset-requires c κs = search needs
+reset-requires c κs = tt
 
 returns-2 : tie.Need-returns-2
 returns-2 c =

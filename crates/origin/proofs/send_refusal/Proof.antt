@@ -3,66 +3,65 @@ use Rattle.refusals.specs.Refusals.{refusal16}
 use Rattle.coding.specs.Coding.{frameLength}
 use Rattle.blocks.specs.Blocks.{refusal11}
 use Rattle.origin.proofs.SendLaws.{orElse-is, refusal-by-type}
-use borrow.Author.Needs.{needs}
 use Rattle.origin.proofs.send_refusal.Statement.{statement}
 use Rattle.origin.proofs.send_refusal.Tie as tie
 
 refusal-14-requires : tie.Need-refusal-14-requires
-refusal-14-requires c κs = search needs
+refusal-14-requires c κs = tt
 
 refusal-13-requires : tie.Need-refusal-13-requires
-refusal-13-requires c κs = search needs
+refusal-13-requires c κs = tt
 
 refusal-6-requires : tie.Need-refusal-6-requires
-refusal-6-requires c κs = search needs
+refusal-6-requires c κs = tt
 
 refusal-12-requires : tie.Need-refusal-12-requires
-refusal-12-requires c κs = search needs
+refusal-12-requires c κs = tt
 
 sample-bits-requires : tie.Need-sample-bits-requires
-sample-bits-requires c κs = search needs
+sample-bits-requires c κs = tt
 
 wide-requires : tie.Need-wide-requires
-wide-requires c κs = search needs
+wide-requires c κs = tt
 
 refusal-11-requires : tie.Need-refusal-11-requires
-refusal-11-requires c κs = search needs
+refusal-11-requires c κs = tt
 
 refusal-10-requires : tie.Need-refusal-10-requires
-refusal-10-requires c κs = search needs
+refusal-10-requires c κs = tt
 
 refusal-15-requires : tie.Need-refusal-15-requires
-refusal-15-requires c κs = search needs
+refusal-15-requires c κs = tt
 
 dropped-of-requires : tie.Need-dropped-of-requires
-dropped-of-requires c κs = search needs
+dropped-of-requires c κs = tt
 
 frame-length-requires : tie.Need-frame-length-requires
-frame-length-requires c κs = search needs
+frame-length-requires c κs = tt
 
 refusal-16-requires : tie.Need-refusal-16-requires
-refusal-16-requires c κs = search needs
+refusal-16-requires c κs = tt
 
 or-else-requires : tie.Need-or-else-requires
-or-else-requires c κs = search needs
+or-else-requires c κs = tt
 
 or-else-requires-2 : tie.Need-or-else-requires-2
-or-else-requires-2 c κs = search needs
+or-else-requires-2 c κs = tt
 
 or-else-requires-3 : tie.Need-or-else-requires-3
-or-else-requires-3 c κs = search needs
+or-else-requires-3 c κs = tt
 
 or-else-requires-4 : tie.Need-or-else-requires-4
-or-else-requires-4 c κs = search needs
+or-else-requires-4 c κs = tt
 
 or-else-requires-5 : tie.Need-or-else-requires-5
-or-else-requires-5 c κs = search needs
+or-else-requires-5 c κs = tt
 
 or-else-requires-6 : tie.Need-or-else-requires-6
-or-else-requires-6 c κs = search needs
+or-else-requires-6 c κs = tt
 
 or-else-requires-7 : tie.Need-or-else-requires-7
-or-else-requires-7 c κs = search needs
+or-else-requires-7 c κs = tt
 
 returns : tie.Need-returns
 returns c =

@@ -1,26 +1,21 @@
-use mathlib.Core.Path.{refl, sym, _∙_}
-use Rattle.refusals.proofs.RefusalLaws.{refused-is, done-is}
+use mathlib.Core.Path.{sym, _∙_}
 use Rattle.onward.specs.Onward.{waitOf}
-use Rattle.onward.specs.Sent.{sentAnswer, sentBuffer}
-use Rattle.origin.specs.Signal.{signalAnswer, signalBuffer}
+use Rattle.origin.proofs.SignalLaws.{signal-refused, signal-done}
 use borrow.Author.Needs.{needs}
 use Rattle.origin.proofs.signal.Statement.{statement}
 use Rattle.origin.proofs.signal.Tie as tie
 
 signal-refusal-requires : tie.Need-signal-refusal-requires
-signal-refusal-requires c κs = search needs
+signal-refusal-requires c κs = tt
 
 returns : tie.Need-returns
-unfolding signalAnswer signalBuffer sentAnswer sentBuffer
 returns c =
     let a = c .before .before .before .args in
     let k = c .before .signal-refusal in
-    let e = k .ensures (waitOf (a .from) (a .to)) in
-    let h = c .if1 .taken in
-    (refused-is _ (k .result) _ _ _ e h (cc), refused-is _ (k .result) _ _ _ e h refl)
+    signal-refused (a .bits) (a .na) (waitOf (a .from) (a .to)) (a .address) (a .out .now) (k .result) (k .ensures (waitOf (a .from) (a .to))) (c .if1 .taken)
 
 wait-of-requires : tie.Need-wait-of-requires
-wait-of-requires c κs = search needs
+wait-of-requires c κs = tt
 
 write-signal-requires : tie.Need-write-signal-requires
 write-signal-requires c κs =
@@ -31,13 +26,13 @@ same-length : tie.Need-same-length
 same-length c = search needs
 
 returns-2 : tie.Need-returns-2
-unfolding signalAnswer signalBuffer sentAnswer sentBuffer
 returns-2 c =
-    let a = c .before .before .before .before .before .before .before .before .args in
-    let k = c .before .before .before .before .before .before .signal-refusal in
-    let e = k .ensures (waitOf (a .from) (a .to)) in
-    let z = c .before .before .before .before .before .if1 .left in
-    (done-is _ (k .result) _ _ _ e z (cc), done-is _ (k .result) _ _ _ e z (cc))
+    let s = c .before .before .write-signal in
+    let w = c .before .before .before .before .wait-of in
+    let i = c .before .before .before .before .before in
+    let k = i .before .signal-refusal in
+    let a = i .before .before .before .args in
+    signal-done (a .bits) (a .na) (waitOf (a .from) (a .to)) (a .address) (a .out .now) (k .result) (k .ensures (waitOf (a .from) (a .to))) (w .result) (s .result) (s .last .1 .1 .1 .1 .0) (i .if1 .left) (w .ensures .0) (s .ensures .0) (s .ensures .1)
 
 pub signal-spec : {M : Type 1} → statement M
 signal-spec =

@@ -1,9 +1,9 @@
-use mathlib.Core.Path.{_≡_, ap, sym}
+use mathlib.Core.Path.{sym}
 use native.Mathlib.Omega.{arith}
 use lib.ListN.{length}
-use Rattle.refusals.proofs.RefusalLaws.{in-range}
 use Rattle.origin.specs.Signal.{signalHead}
-use Rattle.origin.proofs.SignalLaws.{SignalTaken, signal-taken, signal-length, signal-in}
+use Rattle.origin.proofs.SendLaws.{inside-low}
+use Rattle.origin.proofs.SignalLaws.{SignalTaken, signal-taken, signal-length, signal-eight, signal-in}
 use borrow.Author.Needs.{needs}
 use Rattle.origin.proofs.write_signal.Statement.{statement}
 use Rattle.origin.proofs.write_signal.Tie as tie
@@ -14,19 +14,18 @@ known c = signal-taken (c .args .bits) (c .args .na) (c .args .wait) (c .args .a
 head-requires : tie.Need-head-requires
 head-requires c κs =
     let s = c .before in
-    let r = in-range (s .args .address) (known s .inside) in
-    omega arith
+    inside-low (s .args .address) (known s .inside)
 
 slice-aggregate-put-head : tie.Need-slice-aggregate-put-head
 slice-aggregate-put-head c = search needs
 
 put-head-requires : tie.Need-put-head-requires
+unfolding signalHead
 put-head-requires c κs =
     let s = c .before .before .before .before in
     let k = known s in
-    let r = in-range (s .args .address) (k .inside) in
-    let eight : length (c .before .before .head .result) ≡ 8 = ap length (c .before .before .head .ensures) in
-    (omega arith, s .pre .1, omega arith, omega arith)
+    let h = c .before .before .head in
+    (signal-eight (s .args .bits) (s .args .na) (s .args .wait) (s .args .address) (h .result) (h .ensures), s .pre .1, inside-low (s .args .address) (k .inside), omega arith)
 
 seal-requires : tie.Need-seal-requires
 seal-requires c κs =

@@ -1,12 +1,10 @@
 use Prim.Native.Nat.{_-_}
-use mathlib.Core.Path.{_≡_, ap, ap₂, _∙_}
+use mathlib.Core.Path.{ap₂, _∙_}
 use native.Mathlib.Omega.{arith}
 use lib.ListN.{length}
-use Rattle.refusals.proofs.RefusalLaws.{in-range}
 use Rattle.coding.proofs.CodingLaws.{s-le-8, not-reserved}
 use Rattle.blocks.proofs.BlocksLaws.{fit-length}
-use Rattle.origin.specs.Send.{madeHead}
-use Rattle.origin.proofs.SendLaws.{SendTaken, send-taken, enough-room, sent-length, written-in}
+use Rattle.origin.proofs.SendLaws.{inside-low, head-eight, SendTaken, send-taken, enough-room, sent-length, made-by-step, written-in}
 use Rattle.origin.proofs.BurstLaws.{sequence-le, more-le}
 use borrow.Author.Needs.{needs}
 use Rattle.origin.proofs.write_voice.Statement.{statement}
@@ -16,43 +14,41 @@ known : (c : tie.Start) → SendTaken (c .args .sseq) (c .args .step) (c .args .
 known c = send-taken (c .args .sseq) (c .args .step) (c .args .coding) (c .args .noise) (c .args .samples .now) (c .args .level) (c .args .wait) (c .args .address) (length (c .args .out .now)) (c .pre .0)
 
 sample-bits-requires : tie.Need-sample-bits-requires
-sample-bits-requires c κs = search needs
+sample-bits-requires c κs = tt
 
 wide-requires : tie.Need-wide-requires
-wide-requires c κs = search needs
+wide-requires c κs = tt
 
 dropped-of-requires : tie.Need-dropped-of-requires
-dropped-of-requires c κs = search needs
+dropped-of-requires c κs = tt
 
 less-requires : tie.Need-less-requires
-less-requires c κs = search needs
+less-requires c κs = tt
 
 more-sent-requires : tie.Need-more-sent-requires
-more-sent-requires c κs = search needs
+more-sent-requires c κs = tt
 
 sequence-sent-requires : tie.Need-sequence-sent-requires
-sequence-sent-requires c κs = search needs
+sequence-sent-requires c κs = tt
 
 made-head-requires : tie.Need-made-head-requires
 made-head-requires c κs =
     let s = c .before .before .before .before .before .before .before .before in
     let a = s .args in
     let k = known s in
-    let r = in-range (a .address) (k .inside) in
-    (not-reserved (a .coding) (k .known) .1, omega (arith, more-le (a .step)), omega (arith, sequence-le (a .step) (a .sseq) (k .in-record)), k .quiet, omega arith)
+    (not-reserved (a .coding) (k .known) .1, rw (c .before .more-sent .ensures) (more-le (a .step)), rw (c .sequence-sent .ensures) (sequence-le (a .step) (a .sseq) (k .in-record)), k .quiet, inside-low (a .address) (k .inside))
 
 slice-aggregate-put-head : tie.Need-slice-aggregate-put-head
 slice-aggregate-put-head c = search needs
 
 put-head-requires : tie.Need-put-head-requires
-unfolding madeHead
 put-head-requires c κs =
-    let s = c .before .before .before .before .before .before .before .before .before .before .before in
+    let m = c .before .before in
+    let s = m .before .before .before .before .before .before .before .before .before in
     let a = s .args in
     let k = known s in
-    let r = in-range (a .address) (k .inside) in
-    let eight : length (c .before .before .made-head .result) ≡ 8 = ap length (c .before .before .made-head .ensures) in
-    (omega arith, s .pre .1, omega arith, omega (arith, enough-room (a .sseq) (a .step) (a .coding) (a .noise) (a .samples .now) (a .level) (a .wait) (a .address) (length (a .out .now)) k))
+    let eight = head-eight (a .address) (a .coding) (m .before .before .more-sent .result) (m .before .sequence-sent .result) (a .noise) (m .made-head .result) (m .made-head .ensures) in
+    (eight, s .pre .1, inside-low (a .address) (k .inside), omega (arith, enough-room (a .sseq) (a .step) (a .coding) (a .noise) (a .samples .now) (a .level) (a .wait) (a .address) (length (a .out .now)) k))
 
 pack-requires : tie.Need-pack-requires
 pack-requires c κs =
@@ -100,7 +96,7 @@ returns c =
     let q = c .before .before .seal in (
       omega (arith, sent-length (a .sseq) (a .step) (a .coding) (a .noise) (a .samples .now) (a .level) (a .wait) (a .address), ek),
       written-in (a .sseq) (a .step) (a .coding) (a .noise) (a .samples .now) (a .level) (a .wait) (a .address) (a .out .now) (m .result) (h .last .1 .1 .1 .1 .0) (p .last .0) (q .last .0) (s .result) (kept .result)
-          (m .ensures ∙ ap₂ (λ x y. madeHead (a .address) (a .coding) x y (a .noise)) (more .ensures) (seq .ensures)) es ek (h .ensures) (p .ensures) (q .ensures),
+          (made-by-step (a .sseq) (a .step) (a .coding) (a .noise) (a .samples .now) (a .level) (a .wait) (a .address) (m .result) (more .result) (seq .result) (more .ensures) (seq .ensures) (m .ensures)) es ek (h .ensures) (p .ensures) (q .ensures),
     )
 
 pub write-voice-spec : {M : Type 1} → statement M
