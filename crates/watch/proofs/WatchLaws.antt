@@ -1,4 +1,4 @@
--- Laws of the clocks, and of the row that an event leaves.
+-- The order and the row of an event, put together from what is found on the way.
 use Prim.Native.Nat.{ℕ, _+_, _-_, _≤_, _<_}
 use mathlib.Core.Path.{_≡_}
 use mathlib.Core.Bool.{true, false}
@@ -6,6 +6,7 @@ use native.Mathlib.Omega.{arith}
 use lib.Dec.{leb}
 use mathlib.Core.Bool.{Bool, cond}
 use mathlib.Core.Path.{refl, sym}
+use Rattle.refusals.specs.Refusals.{_orElse_}
 use Rattle.watch.specs.declared.Originating.{Originating}
 use Rattle.watch.specs.declared.Terminating.{Terminating}
 use Rattle.watch.specs.declared.Coming.{Coming}
@@ -20,15 +21,11 @@ use Rattle.watch.specs.Watch.{keepAlive, brought, sentAfter, judged, eve
 use Rattle.watch.proofs.TableLaws.{row-left}
 use borrow.Author.Tests.{le-leb, lt-leb}
 
--- the sum is judged by the difference
-pub is-past : (clock from ms : ℕ) → from ≤ clock → ms ≤ clock - from → leb (from + ms) clock ≡ true
-is-past clock from ms h k = le-leb (from + ms) clock (omega arith)
-
-pub not-past : (clock from ms : ℕ) → clock - from < ms → leb (from + ms) clock ≡ false
-not-past clock from ms h = lt-leb (from + ms) clock (omega arith)
-
-pub before-from : (clock from ms : ℕ) → clock < from → leb (from + ms) clock ≡ false
-before-from clock from ms h = lt-leb (from + ms) clock (omega arith)
+-- the order's number, of numbers that were found beforehand
+pub order-is : (a b c d e r21 r14 r18 kept came n₁ n₂ n₃ n : ℕ) → r21 ≡ a → r14 ≡ b → r18 ≡ c → kept ≡ d → came ≡ e
+    → n₁ ≡ kept orElse came → n₂ ≡ r18 orElse n₁ → n₃ ≡ r14 orElse n₂ → n ≡ r21 orElse n₃
+    → n ≡ a orElse b orElse c orElse d orElse e
+order-is a b c d e r21 r14 r18 kept came n₁ n₂ n₃ n p q r s t h₁ h₂ h₃ h = rw (h, h₃, h₂, h₁, p, q, r, s, t) refl
 
 -- a refresh is due after this was sent
 abbrev pub dueAfter : Watch → ℕ → Sends → Bool

@@ -4,22 +4,22 @@ use Rattle.watch.proofs.answered.Statement.{statement}
 use Rattle.watch.proofs.answered.Tie as tie
 
 bits-after-requires : tie.Need-bits-after-requires
-bits-after-requires c κs = search needs
+bits-after-requires c κs = tt
 
 if-sent-requires : tie.Need-if-sent-requires
-if-sent-requires c κs = search needs
+if-sent-requires c κs = tt
 
 na-of-requires : tie.Need-na-of-requires
-na-of-requires c κs = search needs
+na-of-requires c κs = tt
 
 if-sent-requires-2 : tie.Need-if-sent-requires-2
-if-sent-requires-2 c κs = search needs
+if-sent-requires-2 c κs = tt
 
 sent-after-requires : tie.Need-sent-after-requires
-sent-after-requires c κs = search needs
+sent-after-requires c κs = tt
 
 taken-after-requires : tie.Need-taken-after-requires
-taken-after-requires c κs = search needs
+taken-after-requires c κs = tt
 
 returns : tie.Need-returns
 unfolding answered

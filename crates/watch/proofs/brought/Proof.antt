@@ -4,13 +4,13 @@ use Rattle.watch.proofs.brought.Statement.{statement}
 use Rattle.watch.proofs.brought.Tie as tie
 
 enum-told : tie.Need-enum-told
-enum-told c = search needs
+enum-told c = c .match .keys1
 
 enum-known-event : tie.Need-enum-known-event
 enum-known-event c = search needs
 
 reading-requires : tie.Need-reading-requires
-reading-requires c κs = search needs
+reading-requires c κs = tt
 
 enum-known-event-2 : tie.Need-enum-known-event-2
 enum-known-event-2 c = search needs

@@ -3,19 +3,19 @@ use Rattle.watch.proofs.brought_12.Statement.{statement}
 use Rattle.watch.proofs.brought_12.Tie as tie
 
 enum-told : tie.Need-enum-told
-enum-told c = search needs
+enum-told c = c .match .keys1
 
 enum-known-event : tie.Need-enum-known-event
 enum-known-event c = search needs
 
 refusal-12-requires : tie.Need-refusal-12-requires
-refusal-12-requires c κs = search needs
+refusal-12-requires c κs = tt
 
 enum-known-event-2 : tie.Need-enum-known-event-2
 enum-known-event-2 c = search needs
 
 refusal-12-requires-2 : tie.Need-refusal-12-requires-2
-refusal-12-requires-2 c κs = search needs
+refusal-12-requires-2 c κs = tt
 
 returns : tie.Need-returns
 returns c = search needs

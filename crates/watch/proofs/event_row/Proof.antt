@@ -5,34 +5,34 @@ use Rattle.watch.proofs.event_row.Statement.{statement}
 use Rattle.watch.proofs.event_row.Tie as tie
 
 when-past-requires : tie.Need-when-past-requires
-when-past-requires c κs = search needs
+when-past-requires c κs = tt
 
 brought-requires : tie.Need-brought-requires
-brought-requires c κs = search needs
+brought-requires c κs = tt
 
 originating-next-requires : tie.Need-originating-next-requires
-originating-next-requires c κs = search needs
+originating-next-requires c κs = tt
 
 terminating-next-requires : tie.Need-terminating-next-requires
-terminating-next-requires c κs = search needs
+terminating-next-requires c κs = tt
 
 terminating-next-requires-2 : tie.Need-terminating-next-requires-2
-terminating-next-requires-2 c κs = search needs
+terminating-next-requires-2 c κs = tt
 
 sends-next-requires : tie.Need-sends-next-requires
-sends-next-requires c κs = search needs
+sends-next-requires c κs = tt
 
 event-sends-requires : tie.Need-event-sends-requires
-event-sends-requires c κs = search needs
+event-sends-requires c κs = tt
 
 conditioned-requires : tie.Need-conditioned-requires
-conditioned-requires c κs = search needs
+conditioned-requires c κs = tt
 
 conditioned-requires-2 : tie.Need-conditioned-requires-2
-conditioned-requires-2 c κs = search needs
+conditioned-requires-2 c κs = tt
 
 change-requires : tie.Need-change-requires
-change-requires c κs = search needs
+change-requires c κs = tt
 
 returns : tie.Need-returns
 returns c =

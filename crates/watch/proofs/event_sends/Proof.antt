@@ -11,19 +11,19 @@ use Rattle.watch.proofs.event_sends.Statement.{statement}
 use Rattle.watch.proofs.event_sends.Tie as tie
 
 enum-told : tie.Need-enum-told
-enum-told c = search needs
+enum-told c = c .match .keys1
 
 when-past-requires : tie.Need-when-past-requires
-when-past-requires c κs = search needs
+when-past-requires c κs = tt
 
 sends-next-requires : tie.Need-sends-next-requires
-sends-next-requires c κs = search needs
+sends-next-requires c κs = tt
 
 enum-told-2 : tie.Need-enum-told-2
-enum-told-2 c = search needs
+enum-told-2 c = c .match .keys2
 
 enum-told-3 : tie.Need-enum-told-3
-enum-told-3 c = search needs
+enum-told-3 c = c .match .keys3
 
 returns : tie.Need-returns
 returns c =

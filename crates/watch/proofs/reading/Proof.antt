@@ -9,10 +9,10 @@ returns : tie.Need-returns
 returns c = search needs
 
 in-use-requires : tie.Need-in-use-requires
-in-use-requires c κs = search needs
+in-use-requires c κs = tt
 
 in-use-requires-2 : tie.Need-in-use-requires-2
-in-use-requires-2 c κs = search needs
+in-use-requires-2 c κs = tt
 
 returns-2 : tie.Need-returns-2
 returns-2 c =
