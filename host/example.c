@@ -1,5 +1,6 @@
 /* One burst of speech from an origin through two nodes to an endpoint, as an operator would want to
- * see it: what each frame weighs on the way, when it is played and what is left of the voice. */
+ * see it: what each frame weighs on the way, when it is played and what is left of the voice. And the
+ * signalling of a trunk that dies and comes back. */
 
 #include <stdio.h>
 #include <string.h>
@@ -47,6 +48,34 @@ static int refused(const char *where, uint8_t number)
 {
     printf("refused at %s: %u\n", where, number);
     return 1;
+}
+
+/* The watch of a trunk with four states and the default times, which hears nothing until 31 s. */
+static int trunk(void)
+{
+    static const struct { uint64_t clock; uint8_t event, bits; } told[] = {
+        {5000, PELGRANT_READING, 8}, {15000, PELGRANT_PASSING, 0}, {24999, PELGRANT_PASSING, 0},
+        {25000, PELGRANT_PASSING, 0}, {31000, PELGRANT_FRAME_TAKEN, 0}, {35000, PELGRANT_PASSING, 0},
+    };
+    static const char *const events[] = {"passing", "reading", "frame"};
+    static const char *const states[] = {"NORM", "L_ALARM", "R_ALARM"};
+    static const char *const sent[] = {"nothing", "transition", "refresh"};
+    static const char *const conditioning[] = {"as before", "begins", "ends"};
+
+    uint64_t watch[PELGRANT_WATCH], answer[4];
+    uint8_t number = pelgrant_watch_start(4, 10000, 25000, 0, watch, PELGRANT_WATCH);
+    if (number != 0)
+        return refused("the start of the watch", number);
+    printf("\nA trunk that dies and comes back\n\nclock  event    terminating  sent        bits  N/A  conditioning\n");
+    for (size_t n = 0; n < sizeof told / sizeof told[0]; n++) {
+        number = pelgrant_watch_tell(watch, PELGRANT_WATCH, told[n].clock, told[n].event, told[n].bits, 0, answer, 4);
+        if (number != 0)
+            return refused("the watch", number);
+        printf("%5llu  %-7s  %-11s  %-10s  %4llu  %3llu  %s\n", (unsigned long long)told[n].clock,
+            events[told[n].event], states[watch[PELGRANT_WATCH_TERMINATING]], sent[answer[0]],
+            (unsigned long long)answer[1], (unsigned long long)answer[2], conditioning[answer[3]]);
+    }
+    return 0;
 }
 
 int main(void)
@@ -118,5 +147,5 @@ int main(void)
     printf("\nAfter the burst, from %llu ms: %llu samples of %s, noise level %.1f dBmc0%s\n",
         (unsigned long long)record[PELGRANT_END], (unsigned long long)filled,
         memcmp(fill, noise, sizeof fill) == 0 ? "noise" : "the last packet", level, idle ? " (idle)" : "");
-    return 0;
+    return trunk();
 }

@@ -1,7 +1,8 @@
-/* The calls of the card, for a host in C. Document 01 is the law of what they do.
+/* The calls of the card, for a host in C. Document 01 is the law of what they do; for the two calls of
+ * the signalling watch it is request A1 of document 02.
  *
  * Every call takes any octets and any numbers, comes to an end and gives a refusal number of
- * document 01, 0 when done. Where several apply, the one that stands first in the call's order,
+ * those documents, 0 when done. Where several apply, the one that stands first in the call's order,
  * given with each call, is the answer.
  *
  * A slice is a pointer and its length in elements; the pointer must be good for that length.
@@ -13,8 +14,8 @@
  * may be longer than is needed; the rest of it is left alone. In the orders below this first 16 is
  * written "16 (answer)".
  *
- * A refused call leaves SSEQ, the record and the buffer for a frame as they came. A frame written
- * leaves the rest of its buffer as it was.
+ * A refused call leaves SSEQ, the record, the watch and the buffer for a frame as they came. A frame
+ * written leaves the rest of its buffer as it was.
  *
  * A frame is the octets between two flags, zero bits already taken out: 10 to 490 octets, and none
  * that is written here is longer than PELGRANT_FRAME_MAX. A wait is lent as two readings of a
@@ -33,7 +34,8 @@ extern "C" {
 enum {
     PELGRANT_SAMPLES = 128,   /* in a packet, one to an octet */
     PELGRANT_FRAME_MAX = 138, /* octets of the longest frame that is written */
-    PELGRANT_RECORD = 6       /* numbers in an endpoint's record */
+    PELGRANT_RECORD = 6,      /* numbers in an endpoint's record */
+    PELGRANT_WATCH = 9        /* numbers in a circuit's signalling watch */
 };
 
 /* The steps of a burst. */
@@ -48,6 +50,33 @@ enum {
     PELGRANT_M_LAST = 4,
     PELGRANT_LAST_NOISE = 5
 };
+
+/* The fields of a watch: what the circuit is provisioned with, the state of both ends, the bits last
+ * read without a facility alarm, and the clocks of the last frame sent, of the last signalling frame
+ * taken and of the last event, each that of the start where there was none. */
+enum {
+    PELGRANT_WATCH_STATES = 0,
+    PELGRANT_WATCH_REFRESH = 1,
+    PELGRANT_WATCH_KEEPALIVE = 2,
+    PELGRANT_WATCH_ORIGINATING = 3,
+    PELGRANT_WATCH_TERMINATING = 4,
+    PELGRANT_WATCH_BITS = 5,
+    PELGRANT_WATCH_LAST_SENT = 6,
+    PELGRANT_WATCH_LAST_TAKEN = 7,
+    PELGRANT_WATCH_LAST_CLOCK = 8
+};
+
+/* The states of the originating end (the first two) and of the terminating end (all but ALARM). */
+enum { PELGRANT_NORM = 0, PELGRANT_ALARM = 1, PELGRANT_L_ALARM = 1, PELGRANT_R_ALARM = 2 };
+
+/* What a watch is told of: time passing, a reading of the four bits, a signalling frame taken. */
+enum { PELGRANT_PASSING = 0, PELGRANT_READING = 1, PELGRANT_FRAME_TAKEN = 2 };
+
+/* What is to be sent. */
+enum { PELGRANT_NOTHING = 0, PELGRANT_TRANSITION = 1, PELGRANT_REFRESH = 2 };
+
+/* What becomes of trunk conditioning. */
+enum { PELGRANT_UNCHANGED = 0, PELGRANT_BEGINS = 1, PELGRANT_ENDS = 2 };
 
 /* The origin makes a voice frame.
  * Lent: sseq, the origin's number, 0 before the first burst; 128 samples, each below 2^S of the
@@ -147,6 +176,29 @@ uint8_t pelgrant_link(const uint8_t *frame, size_t frame_len, uint64_t *answer, 
  * Refusals: 16 (answer below 3), 1, 2, 3, 4, 5, 6 (voice only), 7, 8, 9.
  * Untouched: frame. */
 uint8_t pelgrant_taken(const uint8_t *frame, size_t frame_len, uint64_t *answer, size_t answer_len);
+
+/* Starts a circuit's signalling watch: both ends in NORM, the bits 0, each of the three clocks this one.
+ * Lent: states, 0 for no signalling, 1 for refresh only, or 2, 4 or 16; refresh, TSIG_REF in ms: 1000,
+ *   5000, 10000 or 20000; keepalive, TSIG_KA in ms: 1.5, 2.5, 3.5 or 4.5 times refresh; clock in ms, up
+ *   to 2^62; watch, exactly 9 numbers.
+ * Back: the watch.
+ * Refusals: 14 where watch_len is not 9, 21, 18.
+ * Untouched: where refused, the watch. */
+uint8_t pelgrant_watch_start(uint8_t states, uint32_t refresh, uint32_t keepalive, uint64_t clock,
+    uint64_t *watch, size_t watch_len);
+
+/* Tells a watch of an event: what is to be sent, and what becomes of trunk conditioning.
+ * Lent: the watch, exactly 9 numbers; clock in ms, up to 2^62; the event; with a reading bits, A, B, C, D
+ *   as 8, 4, 2, 1, and flag, 0 without and any other number with a facility alarm; with a frame taken
+ *   flag, its N/A, 0 or 1. Nothing else of bits and flag is looked at.
+ * Back: answer[0] what is to be sent, answer[1] its bits, answer[2] its N/A, both 0 where that is
+ *   nothing; answer[3] conditioning, before the event against after it; the watch moved on.
+ * Refusals: 16 (answer below 4), 21 for an event above 2, 14 where watch_len is not 9 or a number of the
+ *   watch fits no field (states or bits above 255, refresh or keepalive above 2^32 - 1, a state that is
+ *   none), 21, 14, 18, 12.
+ * Untouched: where refused, the watch. */
+uint8_t pelgrant_watch_tell(uint64_t *watch, size_t watch_len, uint64_t clock, uint8_t event, uint8_t bits,
+    uint8_t flag, uint64_t *answer, size_t answer_len);
 
 #ifdef __cplusplus
 }

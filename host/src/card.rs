@@ -45,6 +45,13 @@ mod c {
         ) -> u8;
         pub fn pelgrant_link(frame: *const u8, frame_len: usize, answer: *mut u64, answer_len: usize) -> u8;
         pub fn pelgrant_taken(frame: *const u8, frame_len: usize, answer: *mut u64, answer_len: usize) -> u8;
+        pub fn pelgrant_watch_start(
+            states: u8, refresh: u32, keepalive: u32, clock: u64, watch: *mut u64, watch_len: usize,
+        ) -> u8;
+        pub fn pelgrant_watch_tell(
+            watch: *mut u64, watch_len: usize, clock: u64, event: u8, bits: u8, flag: u8, answer: *mut u64,
+            answer_len: usize,
+        ) -> u8;
     }
 }
 
@@ -195,5 +202,23 @@ impl Calls for Card {
 
     fn taken(&self, frame: &[u8], answer: &mut [u64]) -> u8 {
         unsafe { c::pelgrant_taken(frame.as_ptr(), frame.len(), answer.as_mut_ptr(), answer.len()) }
+    }
+    fn watch_start(&self, states: u8, refresh: u32, keepalive: u32, clock: u64, watch: &mut [u64]) -> u8 {
+        unsafe { c::pelgrant_watch_start(states, refresh, keepalive, clock, watch.as_mut_ptr(), watch.len()) }
+    }
+
+    fn watch_tell(&self, watch: &mut [u64], clock: u64, event: u8, bits: u8, flag: u8, answer: &mut [u64]) -> u8 {
+        unsafe {
+            c::pelgrant_watch_tell(
+                watch.as_mut_ptr(),
+                watch.len(),
+                clock,
+                event,
+                bits,
+                flag,
+                answer.as_mut_ptr(),
+                answer.len(),
+            )
+        }
     }
 }

@@ -19,14 +19,14 @@ const MORE: u8 = 0x80;
 
 const STAMP_MAX: u8 = 200;
 const LEVEL_MAX: u8 = 3;
-const FOUR_BITS: u8 = 15;
+pub(crate) const FOUR_BITS: u8 = 15;
 const BUILD_OUT_MAX: u8 = 199;
-const CLOCK_MAX: u64 = 1 << 62;
+pub(crate) const CLOCK_MAX: u64 = 1 << 62;
 const PACKET_MS: u64 = 16;
 /// A frame is due at most this long after the clock, so `end` is at most 16 ms more.
 const AHEAD_MAX: u64 = 439;
 
-/// The refusal numbers of document 01.
+/// The refusal numbers of document 01, and 21 of document 02.
 #[derive(Clone, Copy, Debug, PartialEq, Eq)]
 #[repr(u8)]
 pub enum Refusal {
@@ -50,11 +50,12 @@ pub enum Refusal {
     Clock = 18,
     OtherKind = 19,
     Early = 20,
+    NotOffered = 21,
 }
 
 use Refusal::*;
 
-fn refuse_if(applies: bool, refusal: Refusal) -> Result<(), Refusal> {
+pub(crate) fn refuse_if(applies: bool, refusal: Refusal) -> Result<(), Refusal> {
     if applies {
         Err(refusal)
     } else {

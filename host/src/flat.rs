@@ -1,16 +1,19 @@
-//! Document 01 in the flat form of `pelgrant.h`: numbers and lent slices.
+//! Document 01 and the signalling watch in the flat form of `pelgrant.h`: numbers and lent slices.
 //!
-//! Only this form can be lent an answer slice too short (16), a step that is none (13) or a
-//! record of another length (14); they are judged before all else, in that order. Past 16 the
-//! answer is always written, zeros where the call is refused.
+//! Only this form can be lent an answer slice too short (16), a step (13) or an event (21) that is
+//! none, or a record of another length or with a number that fits no field (14); they are judged
+//! before all else, in that order. Past 16 the answer is always written, zeros where the call is
+//! refused.
 
 use crate::document::{self, Departure, Endpoint, Kind, Packet, Refusal, Scheduled, Step, SAMPLES};
+use crate::watch::{Cause, Conditioning, Event, Originating, Terminating, Told, Watch};
 use crate::Calls;
 
 /// The independent implementation.
 pub struct Document;
 
 pub const RECORD: usize = 6;
+pub const WATCH: usize = 9;
 const SHORT: u8 = Refusal::Buffer as u8;
 
 /// Writes the values of a call that was done, zeros for one refused, and gives its number.
@@ -65,6 +68,74 @@ fn record_of(endpoint: &Endpoint) -> [u64; RECORD] {
 fn heard(scheduled: Scheduled) -> ([u64; 4], [u8; SAMPLES]) {
     let Scheduled { due, reset, voice } = scheduled;
     ([due, reset.into(), voice.sample_bits.into(), voice.dropped.into()], voice.samples)
+}
+
+pub fn watch_of(record: &[u64]) -> Result<Watch, Refusal> {
+    let &[states, refresh, keepalive, originating, terminating, bits, last_sent, last_taken, last_clock] = record
+    else {
+        return Err(Refusal::Record);
+    };
+    let octet = |field| u8::try_from(field).map_err(|_| Refusal::Record);
+    let timer = |field| u32::try_from(field).map_err(|_| Refusal::Record);
+    Ok(Watch {
+        states: octet(states)?,
+        refresh: timer(refresh)?,
+        keepalive: timer(keepalive)?,
+        originating: match originating {
+            0 => Originating::Norm,
+            1 => Originating::Alarm,
+            _ => return Err(Refusal::Record),
+        },
+        terminating: match terminating {
+            0 => Terminating::Norm,
+            1 => Terminating::LossAlarm,
+            2 => Terminating::RemoteAlarm,
+            _ => return Err(Refusal::Record),
+        },
+        bits: octet(bits)?,
+        last_sent,
+        last_taken,
+        last_clock,
+    })
+}
+
+fn watch_record(watch: &Watch) -> [u64; WATCH] {
+    [
+        watch.states.into(),
+        watch.refresh.into(),
+        watch.keepalive.into(),
+        watch.originating as u64,
+        watch.terminating as u64,
+        watch.bits.into(),
+        watch.last_sent,
+        watch.last_taken,
+        watch.last_clock,
+    ]
+}
+
+pub fn event_of(event: u8, bits: u8, flag: u8) -> Result<Event, Refusal> {
+    match event {
+        0 => Ok(Event::Passing),
+        1 => Ok(Event::Reading { bits, facility_alarm: flag != 0 }),
+        2 => Ok(Event::Taken { na: flag }),
+        _ => Err(Refusal::NotOffered),
+    }
+}
+
+fn told(told: Told) -> [u64; 4] {
+    let [sent, bits, na] = told.sending.map_or([0; 3], |sending| {
+        let sent = match sending.cause {
+            Cause::Transition => 1,
+            Cause::Refresh => 2,
+        };
+        [sent, sending.bits.into(), sending.na.into()]
+    });
+    let conditioning = match told.conditioning {
+        None => 0,
+        Some(Conditioning::Begins) => 1,
+        Some(Conditioning::Ends) => 2,
+    };
+    [sent, bits, na, conditioning]
 }
 
 fn is_voice(kind: Kind) -> u64 {
@@ -192,5 +263,109 @@ impl Calls for Document {
         }
         let taken = document::taken(frame);
         answered(taken.map(|taken| [is_voice(taken.kind), taken.length as u64, taken.left.into()]), answer)
+    }
+    fn watch_start(&self, states: u8, refresh: u32, keepalive: u32, clock: u64, watch: &mut [u64]) -> u8 {
+        if watch.len() != WATCH {
+            return Refusal::Record as u8;
+        }
+        match Watch::start(states, refresh, keepalive, clock) {
+            Ok(started) => {
+                watch.copy_from_slice(&watch_record(&started));
+                0
+            }
+            Err(refusal) => refusal as u8,
+        }
+    }
+
+    fn watch_tell(&self, watch: &mut [u64], clock: u64, event: u8, bits: u8, flag: u8, answer: &mut [u64]) -> u8 {
+        if answer.len() < 4 {
+            return SHORT;
+        }
+        let answers = event_of(event, bits, flag).and_then(|event| {
+            let mut moved_on = watch_of(watch)?;
+            let answers = moved_on.tell(clock, event)?;
+            watch.copy_from_slice(&watch_record(&moved_on));
+            Ok(answers)
+        });
+        answered(answers.map(told), answer)
+    }
+}
+
+#[cfg(test)]
+mod tests {
+    use super::*;
+
+    const UNUSED: u64 = 77;
+    /// Of 16 states, 1 s and 4.5 s, in ALARM and R_ALARM.
+    const SOUND: [u64; WATCH] = [16, 1000, 4500, 1, 2, 5, 700, 600, 900];
+
+    /// The number, the watch and the answer after an event told with five slots for the answer.
+    fn tell(watch: &[u64], clock: u64, event: u8, bits: u8, flag: u8) -> (u8, Vec<u64>, [u64; 5]) {
+        let (mut watch, mut answer) = (watch.to_vec(), [UNUSED; 5]);
+        let number = Document.watch_tell(&mut watch, clock, event, bits, flag, &mut answer);
+        (number, watch, answer)
+    }
+
+    #[test]
+    fn watch_start_in_numbers() {
+        let start = |states, refresh, clock, length| {
+            let mut watch = vec![UNUSED; length];
+            let number = Document.watch_start(states, refresh, 25_000, clock, &mut watch);
+            (number, watch)
+        };
+        assert_eq!(start(4, 10_000, 123, 9), (0, vec![4, 10_000, 25_000, 0, 0, 0, 123, 123, 123]));
+        assert_eq!(start(3, 10_000, 123, 9), (21, vec![UNUSED; 9]));
+        assert_eq!(start(4, 10_000, u64::MAX, 9), (18, vec![UNUSED; 9]));
+        assert_eq!(start(4, 20_000, u64::MAX, 9), (21, vec![UNUSED; 9]));
+        for length in [0, 8, 10] {
+            assert_eq!(start(3, 0, u64::MAX, length), (14, vec![UNUSED; length]));
+        }
+    }
+
+    #[test]
+    fn watch_tell_in_numbers() {
+        let after = |changes: &[(usize, u64)]| {
+            let mut watch = SOUND.to_vec();
+            changes.iter().for_each(|&(field, number)| watch[field] = number);
+            watch
+        };
+        assert_eq!(tell(&SOUND, 901, 0, 255, 255), (0, after(&[(8, 901)]), [0, 0, 0, 0, UNUSED]));
+        let transition = after(&[(3, 0), (5, 6), (6, 902), (8, 902)]);
+        assert_eq!(tell(&SOUND, 902, 1, 6, 0), (0, transition, [1, 6, 0, 0, UNUSED]));
+        let refresh = after(&[(6, 1700), (8, 1700)]);
+        assert_eq!(tell(&SOUND, 1700, 1, 6, 255), (0, refresh, [2, 5, 1, 0, UNUSED]));
+        let mended = after(&[(4, 0), (7, 903), (8, 903)]);
+        assert_eq!(tell(&SOUND, 903, 2, 255, 0), (0, mended, [0, 0, 0, 2, UNUSED]));
+        let run_out = after(&[(4, 1), (6, 5100), (8, 5100)]);
+        assert_eq!(tell(&SOUND, 5100, 0, 0, 0), (0, run_out, [2, 5, 1, 0, UNUSED]));
+    }
+
+    #[test]
+    fn watch_tell_refuses_in_its_order() {
+        let refused = |number, watch: &[u64], clock, event| {
+            assert_eq!(tell(watch, clock, event, 16, 2), (number, watch.to_vec(), [0, 0, 0, 0, UNUSED]));
+        };
+        let with = |field: usize, number| {
+            let mut watch = SOUND;
+            watch[field] = number;
+            watch
+        };
+        let mut short = [UNUSED; 3];
+        assert_eq!((Document.watch_tell(&mut [], 0, 3, 0, 0, &mut short), short), (16, [UNUSED; 3]));
+        refused(21, &[], 0, 3);
+        refused(21, &SOUND, 900, 255);
+        refused(14, &SOUND[..8], 0, 1);
+        refused(14, &[0; 10], 0, 1);
+        let too_large = [256, 1 << 32, 1 << 32, 2, 3, 256];
+        for (field, number) in too_large.into_iter().enumerate() {
+            refused(14, &with(field, number), 0, 1);
+            refused(14, &with(field, u64::MAX), 0, 1);
+            // One less fits, and the clock is the next to be judged, or the parameters.
+            refused(if field < 3 { 21 } else { 18 }, &with(field, number - 1), 0, 1);
+        }
+        refused(14, &with(6, 901), 0, 1);
+        refused(12, &SOUND, 900, 1);
+        refused(12, &SOUND, 900, 2);
+        refused(12, &with(5, 255), 900, 0);
     }
 }

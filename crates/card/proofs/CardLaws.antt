@@ -1,13 +1,13 @@
 -- What is known of slices that are long enough, and what each lent slice holds where this form refuses, and where it does not.
 use Prim.Native.Nat.{ℕ, _≤_}
-use mathlib.Core.Path.{_≡_, refl, sym, _∙_}
-use mathlib.Core.Bool.{Bool, true, false, cond, _||_}
+use mathlib.Core.Path.{_≡_, refl, sym, ap, _∙_}
+use mathlib.Core.Bool.{Bool, true, false, cond, not, _||_}
 use mathlib.Core.List.{List, [], _∷_}
 use native.Mathlib.Omega.{arith}
 use lib.Dec.{ltb, eqb}
 use lib.ListN.{length, take, set, length-take}
 use borrow.Author.Tests.{ltb-false, eqb-true, not-false}
-use Rattle.refusals.specs.Refusals.{_orElse_, refusal16}
+use Rattle.refusals.specs.Refusals.{_orElse_, refuse, refusal16}
 use Rattle.refusals.proofs.RefusalLaws.{orElse-zero, refuse-zero, refused-is, done-is}
 use Rattle.endpoint.specs.Fill.{fillOf}
 use Rattle.card.specs.Card.{put, written, recordRefusal}
@@ -20,8 +20,11 @@ roomy-two first n second m e z =
     let p = orElse-zero (refusal16 first n) (refusal16 second m) (sym e ∙ z) in
     (roomy {r = refusal16 first n} refl (p .0), roomy {r = refusal16 second m} refl (p .1))
 
+pub sized : (k n : ℕ) {r : ℕ} → r ≡ refuse (not (eqb n k)) 14 → r ≡ 0 → n ≡ k
+sized k n e z = eqb-true n k (not-false (eqb n k) (refuse-zero _ 13 (sym e ∙ z)))
+
 pub six : (n : ℕ) {r : ℕ} → r ≡ recordRefusal n → r ≡ 0 → n ≡ 6
-six n e z = eqb-true n 6 (not-false (eqb n 6) (refuse-zero _ 13 (sym e ∙ z)))
+six n e z = sized 6 n e z
 
 -- an order whose parts are known
 pub both : {r a b x y : ℕ} → r ≡ a orElse b → a ≡ x → b ≡ y → r ≡ x orElse y
@@ -49,3 +52,7 @@ module _ {A : Type 0} (flat r : ℕ) (values slot : List A) (e : r ≡ flat) whe
   pub answered : r ≡ 0 → (x : List A) → x ≡ put values slot → x ≡ written flat values slot
   unfolding written
   answered z x p = done-is flat r _ _ x e z p
+
+  -- by values that are known to be these
+  pub answered-by : r ≡ 0 → (x : List A) {y : List A} → x ≡ put y slot → y ≡ values → x ≡ written flat values slot
+  answered-by z x p q = answered z x (p ∙ ap (λ (v : List A). put v slot) q)

@@ -1,3 +1,4 @@
 pub mod CardLaws
 pub mod KeptLaws
+pub mod WatchingLaws
 pub mod OneOutcome

@@ -15,7 +15,9 @@ use Rattle.endpoint.specs.Fill.{fillOf}
 use Rattle.endpoint.specs.Play.{freshRecord}
 use Rattle.endpoint.specs.Read.{readAnswer}
 use Rattle.endpoint.specs.Signal.{signalAnswer}
+use Rattle.watch.specs.Watch.{startAnswer}
 use Rattle.card.specs.Card.{short, shortTwo, written, sentNumbers, linkNumbers, takenNumbers, noiseNumbers, heardNumbers, arrivalNumbers, signalNumbers, stepAnswer, stepBuffer, stepSseq, recordNumbers, recordRefusal, keptArrival, keptAfter}
+use Rattle.card.specs.Watching.{watchNumbers, nineRefusal, tellNumbers, keptTell}
 
 abbrev One : {A : Type 0} → A → Type 0
 One {A} right = (a b : A) → a ≡ right → b ≡ right → a ≡ b
@@ -85,3 +87,13 @@ module _ (wait addr : ℕ) (f out answer samples : List ℕ) where
 
   pub taken-one : Answers (short 3 answer) (takenAnswer f .refusal) (takenNumbers (takenAnswer f)) answer
   taken-one = answers _ _ _ answer
+
+  pub watch-start-one : (states refresh keepalive clock : ℕ) (kept : List ℕ)
+      → One (nineRefusal (length kept) orElse startAnswer states refresh keepalive clock .refusal)
+      × One (written (nineRefusal (length kept) orElse startAnswer states refresh keepalive clock .refusal) (watchNumbers (startAnswer states refresh keepalive clock .after)) kept)
+  watch-start-one states refresh keepalive clock kept = (one _, one _)
+
+  pub watch-tell-one : (clock event bits flag : ℕ) (kept : List ℕ)
+      → Answers (short 4 answer) (keptTell kept clock event bits flag .refusal) (tellNumbers (keptTell kept clock event bits flag)) answer
+      × One (written (short 4 answer orElse keptTell kept clock event bits flag .refusal) (watchNumbers (keptTell kept clock event bits flag .after)) kept)
+  watch-tell-one clock event bits flag kept = (answers _ _ _ answer, one _)

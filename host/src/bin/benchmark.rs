@@ -194,8 +194,24 @@ fn taken<C: Calls>(calls: C, number: u8, frame: &[u8]) -> impl FnMut(u64) {
     repeated(number, move || calls.taken(black_box(&frame), black_box(&mut answer)))
 }
 
+fn watch_start<C: Calls>(calls: C, number: u8) -> impl FnMut(u64) {
+    let mut watch = WATCH;
+    repeated(number, move || calls.watch_start(black_box(16), 10_000, 25_000, 0, black_box(&mut watch)))
+}
+
+/// An event every 3 ms; the bits of a reading are never those of the one before, so each is a transition.
+fn watch_tell<C: Calls>(calls: C, number: u8, event: u8) -> impl FnMut(u64) {
+    let (mut watch, mut answer, mut clock) = (WATCH, [0; 4], 0);
+    repeated(number, move || {
+        clock += 3;
+        calls.watch_tell(black_box(&mut watch), clock, black_box(event), clock as u8 & 15, 0, black_box(&mut answer))
+    })
+}
+
 // ---- Frames ----
 
+/// Of 16 states and the default times, just started.
+const WATCH: [u64; 9] = [16, 10_000, 25_000, 0, 0, 0, 0, 0, 0];
 const RECORD: [u64; 6] = [100, 0, 0, 0, 0, 0];
 
 fn voice(coding: u8) -> Vec<u8> {
@@ -268,6 +284,10 @@ fn done_table() {
     done_row("fill", "none", both!(fill, 0));
     done_row("noise_level", "none", both!(noise_level, 0));
     done_row("fresh", "none", both!(fresh, 0));
+    done_row("watch_start", "none", both!(watch_start, 0));
+    done_row("watch_tell", "none, time passing", both!(watch_tell, 0, 0));
+    done_row("watch_tell", "none, a transition", both!(watch_tell, 0, 1));
+    done_row("watch_tell", "signalling, taken", both!(watch_tell, 0, 2));
 }
 
 struct RefusedRow {

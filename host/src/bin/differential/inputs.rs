@@ -7,10 +7,11 @@ use pelgrant_host::document::{check_sequence, Coding};
 pub const CLOCK_MAX: u64 = 1 << 62;
 pub const LEGAL_CODINGS: [u8; 17] = [0, 1, 2, 3, 4, 5, 6, 7, 8, 9, 10, 11, 12, 13, 20, 21, 24];
 
-/// The refusals that only the flat form has, counted apart from document 01's.
-pub const FLAT_13: usize = 21;
-pub const FLAT_14: usize = 22;
-pub const FLAT_16: usize = 23;
+/// The refusals that only the flat form has, counted apart from the calls' own.
+pub const FLAT_13: usize = 22;
+pub const FLAT_14: usize = 23;
+pub const FLAT_16: usize = 24;
+pub const FLAT_21: usize = 25;
 
 /// The numbers that an input is made to be refused by.
 #[derive(Clone, Copy)]
@@ -34,6 +35,10 @@ impl Faults {
 
     pub fn has(self, number: usize) -> bool {
         self.0 >> number & 1 == 1
+    }
+
+    pub fn none(self) -> bool {
+        self.0 == 0
     }
 }
 
@@ -311,6 +316,25 @@ pub fn room(random: &mut Random, needed: usize, short: bool) -> usize {
 
 // ---- Play-out ----
 
+/// A clock that a record may have kept, or one past the limit.
+pub fn kept_clock(random: &mut Random, bad: bool) -> u64 {
+    let any = random.below(CLOCK_MAX);
+    match bad {
+        true => random.pick(&[CLOCK_MAX + 1, CLOCK_MAX + 2, 1 << 63, u64::MAX]),
+        false => random.pick(&[0, 1, 1000, (1 << 32) - 1, 1 << 32, CLOCK_MAX - 20, CLOCK_MAX - 1, CLOCK_MAX, any, any]),
+    }
+}
+
+/// A clock that went back or past the limit.
+fn wrong_clock(random: &mut Random, last_clock: u64) -> u64 {
+    let past = random.pick(&[CLOCK_MAX + 1, CLOCK_MAX + 2, u64::MAX]);
+    if last_clock == 0 {
+        past
+    } else {
+        random.pick(&[last_clock - 1, 0, past])
+    }
+}
+
 pub fn record(random: &mut Random, bad: bool) -> [u64; 6] {
     let bad_fields = match (bad, random.one_in(4)) {
         (false, _) => 0,
@@ -318,15 +342,7 @@ pub fn record(random: &mut Random, bad: bool) -> [u64; 6] {
         (true, true) => 1 + random.below(63),
     };
     let bad = |field: u64| bad_fields >> field & 1 == 1;
-    let last_clock = {
-        let any = random.below(CLOCK_MAX);
-        match bad(2) {
-            true => random.pick(&[CLOCK_MAX + 1, CLOCK_MAX + 2, 1 << 63, u64::MAX]),
-            false => {
-                random.pick(&[0, 1, 1000, (1 << 32) - 1, 1 << 32, CLOCK_MAX - 20, CLOCK_MAX - 1, CLOCK_MAX, any, any])
-            }
-        }
-    };
+    let last_clock = kept_clock(random, bad(2));
     let end = {
         let (ahead, behind) = (random.below(456), random.below(1000));
         match bad(3) {
@@ -348,8 +364,7 @@ pub fn record(random: &mut Random, bad: bool) -> [u64; 6] {
 pub fn clock(random: &mut Random, record: &[u64; 6], bad: bool) -> u64 {
     let &[_, _, last_clock, end, ..] = record;
     if bad {
-        let past = random.pick(&[CLOCK_MAX + 1, CLOCK_MAX + 2, u64::MAX]);
-        return if last_clock == 0 { past } else { random.pick(&[last_clock - 1, 0, past]) };
+        return wrong_clock(random, last_clock);
     }
     let (soon, later, any) = (random.below(40), random.below(1000), random.number() >> 2);
     let clock = random.pick(&[
@@ -367,4 +382,156 @@ pub fn clock(random: &mut Random, record: &[u64; 6], bad: bool) -> u64 {
         any,
     ]);
     clock.min(CLOCK_MAX).max(last_clock)
+}
+
+// ---- The signalling watch ----
+
+pub const PROVISIONS: [u8; 5] = [0, 1, 2, 4, 16];
+
+/// Every TSIG_REF that is offered, with every TSIG_KA that is offered with it.
+pub const TIMERS: [(u32, u32); 16] = [
+    (1000, 1500),
+    (1000, 2500),
+    (1000, 3500),
+    (1000, 4500),
+    (5000, 7500),
+    (5000, 12500),
+    (5000, 17500),
+    (5000, 22500),
+    (10000, 15000),
+    (10000, 25000),
+    (10000, 35000),
+    (10000, 45000),
+    (20000, 30000),
+    (20000, 50000),
+    (20000, 70000),
+    (20000, 90000),
+];
+
+pub const WATCH_FIELDS: [&str; 9] =
+    ["states", "refresh", "keepalive", "originating", "terminating", "bits", "last sent", "last taken", "last clock"];
+
+/// The largest numbers that fit the fields before the clocks.
+const FITTING: [u64; 6] = [255, u32::MAX as u64, u32::MAX as u64, 1, 2, 255];
+
+/// The length of a slice for a watch.
+pub fn watch_length(random: &mut Random, bad: bool) -> usize {
+    if bad {
+        random.pick(&[0, 1, 8, 10, 18])
+    } else {
+        WATCH_FIELDS.len()
+    }
+}
+
+/// States, TSIG_REF and TSIG_KA; where bad, the first or the pair is not offered, or neither.
+pub fn parameters(random: &mut Random, bad: bool) -> (u8, u32, u32) {
+    let which = if bad { 1 + random.below(3) } else { 0 };
+    let offered = random.pick(&PROVISIONS);
+    let states = match which & 1 {
+        0 => offered,
+        _ => another(random, |random| near(random, offered), |states| !PROVISIONS.contains(states)),
+    };
+    let (refresh, keepalive) = match which & 2 {
+        0 => random.pick(&TIMERS),
+        _ => another(random, likely_timers, |timers| !TIMERS.contains(timers)),
+    };
+    (states, refresh, keepalive)
+}
+
+/// Whole seconds and a multiple of their half, or near what is offered for each, if not together.
+fn likely_timers(random: &mut Random) -> (u32, u32) {
+    if random.one_in(2) {
+        let refresh = 1000 * random.below(31) as u32;
+        return (refresh, refresh / 2 * random.below(12) as u32);
+    }
+    let ((refresh, _), (_, keepalive)) = (random.pick(&TIMERS), random.pick(&TIMERS));
+    (near_timer(random, refresh), near_timer(random, keepalive))
+}
+
+fn near_timer(random: &mut Random, timer: u32) -> u32 {
+    let any = random.number() as u32;
+    random.pick(&[timer, timer, timer, timer - 1, timer + 1, 2 * timer, timer / 2, 0, u32::MAX, any])
+}
+
+/// The clock of a start; many are so near the limit that the timers end behind it.
+pub fn start_clock(random: &mut Random, bad: bool) -> u64 {
+    if !bad && random.one_in(4) {
+        CLOCK_MAX - random.below(200_000)
+    } else {
+        kept_clock(random, bad)
+    }
+}
+
+/// The clock of the next event, oftenest at the end of a timer or one ms beside it.
+pub fn next_clock(random: &mut Random, watch: &[u64; 9], bad: bool) -> u64 {
+    let &[_, refresh, keepalive, _, _, _, last_sent, last_taken, last_clock] = watch;
+    if bad {
+        return wrong_clock(random, last_clock);
+    }
+    let (soon, later) = (last_clock + random.below(4), last_clock + random.below(keepalive));
+    let end = random.pick(&[last_sent + refresh, last_taken + keepalive]);
+    let beside = end + random.below(3) - 1;
+    random.pick(&[last_clock, soon, later, beside, beside, beside]).clamp(last_clock, CLOCK_MAX)
+}
+
+/// An event's bits and flag; where bad, those that the event looks at are too large.
+pub fn bits_and_flag(random: &mut Random, event: u8, kept_bits: u8, bad: bool) -> (u8, u8) {
+    let (any_bits, any_flag) = (random.octet(), random.octet());
+    match event {
+        1 if bad => (up_to(random, 15, true), any_flag & 1),
+        1 => {
+            let (one_bit, some_bits) = (1 << random.below(4), any_bits & 15);
+            let changed = random.pick(&[0, one_bit, one_bit, some_bits]);
+            (kept_bits ^ changed, random.pick(&[0, 0, 0, 1, 255, any_flag]))
+        }
+        2 => (any_bits, up_to(random, 1, bad)),
+        _ => (any_bits, any_flag),
+    }
+}
+
+/// The watch with those faults, as far as they are its own; of 12, the kept bits if `bad_bits`.
+pub fn watch(random: &mut Random, sound: &[u64; 9], faults: Faults, bad_bits: bool) -> Vec<u64> {
+    let mut watch = sound.to_vec();
+    if faults.has(21) {
+        let (states, refresh, keepalive) = parameters(random, true);
+        watch[..3].copy_from_slice(&[states.into(), refresh.into(), keepalive.into()]);
+    }
+    if faults.has(14) {
+        let (past, after) = (kept_clock(random, true), watch[8] + 1 + random.below(100_000));
+        match random.below(3) {
+            0 => watch[8] = past,
+            which => watch[5 + which as usize] = random.pick(&[watch[8] + 1, after, past]),
+        }
+    }
+    if bad_bits {
+        watch[5] = up_to(random, 15, true).into();
+    }
+    if faults.has(FLAT_14) {
+        if random.one_in(2) {
+            watch.resize(watch_length(random, true), 0);
+        } else {
+            let field = random.size_below(FITTING.len());
+            let unfit = FITTING[field] + 1;
+            let any = random.number().max(unfit);
+            watch[field] = random.pick(&[unfit, u64::MAX, any]);
+        }
+    }
+    watch
+}
+
+/// What one field may be damaged to: what it might as well be, or beside it, or at some limit.
+pub fn damaged(random: &mut Random, watch: &[u64; 9], field: usize) -> u64 {
+    let was = watch[field];
+    let likely = match field {
+        0 => random.pick(&PROVISIONS).into(),
+        1 => random.pick(&TIMERS).0.into(),
+        2 => watch[1] / 2 * (2 + random.below(9)),
+        3 => random.below(2),
+        4 => random.below(3),
+        5 => random.below(16),
+        _ => (watch[8] + random.below(3)).saturating_sub(random.below(100_000)),
+    };
+    let flipped = was ^ 1 << random.below(64);
+    let limit = random.pick(&[0, 15, 16, 255, 256, u32::MAX.into(), 1 << 32, CLOCK_MAX, CLOCK_MAX + 1, u64::MAX]);
+    random.pick(&[likely, likely, likely, was.wrapping_add(1), was.wrapping_sub(1), flipped, limit])
 }

@@ -1,14 +1,18 @@
 //! Calls the proved library and the independent implementation with the same inputs and compares
 //! all that comes back: the number, the answers, and every octet lent and around it.
 //!
-//! `differential [INPUTS [SEED]]`: INPUTS for each call, and a tenth as many chains.
+//! `differential [INPUTS [SEED]]`: INPUTS for each call, more for the events of a watch, and a tenth
+//! as many chains.
 
+mod cases;
 mod inputs;
 mod lent;
 mod random;
+mod table;
 mod tally;
 
-use inputs::{Draft, Faults, FLAT_13, FLAT_14, FLAT_16};
+use cases::Cases;
+use inputs::{Draft, Faults, FLAT_13, FLAT_14, FLAT_16, FLAT_21};
 use lent::Lent;
 use pelgrant_host::card::Card;
 use pelgrant_host::document::Coding;
@@ -19,6 +23,8 @@ use std::process::ExitCode;
 use tally::{Call, Tally};
 
 const INPUTS: u64 = 1_000_000;
+/// Events of a watch for each input of another call: they come in long sequences.
+const EVENTS: u64 = 6;
 const SEED: u64 = 764;
 const SHOWN: u64 = 10;
 
@@ -29,15 +35,18 @@ struct Run {
     different: u64,
     /// The record that the last arrival left, so that whole bursts are played and not only single frames.
     carried: [u64; 6],
+    /// The watch that the last event left.
+    watch: [u64; 9],
+    cases: Cases,
 }
 
 /// What a call lent too little or of the wrong shape is refused by, if at all.
 fn flat(faults: Faults) -> Option<usize> {
-    [FLAT_16, FLAT_13, FLAT_14].into_iter().find(|number| faults.has(*number))
+    [FLAT_16, FLAT_13, FLAT_21, FLAT_14].into_iter().find(|number| faults.has(*number))
 }
 
 impl Run {
-    /// Gives the number and what was lent as document 01 leaves it.
+    /// Gives the number and what was lent as the independent implementation leaves it.
     fn compare(
         &mut self, call: Call, flat: Option<usize>, numbers: &[u64], lent: Lent,
         run: impl Fn(&dyn Calls, &mut Lent) -> u8,
@@ -50,11 +59,11 @@ impl Run {
         if right_number != found_number || difference.is_some() {
             self.differs(|| {
                 println!("different: {}, numbers {numbers:?}", call.name());
-                println!("  document 01 answers {right_number}, the card {found_number}");
+                println!("  right is {right_number}, the card answers {found_number}");
                 if let Some(name) = difference {
                     println!("  first of what is lent to differ: {name}");
                 }
-                println!("  lent {lent:?}\n  document 01 {right:?}\n  the card {found:?}");
+                println!("  lent {lent:?}\n  right {right:?}\n  the card {found:?}");
             });
         }
         (right_number, right)
@@ -337,6 +346,59 @@ impl Run {
         });
     }
 
+    fn watch_start(&mut self) {
+        let random = &mut self.random;
+        let faults = Faults::among(random, Call::WatchStart.order());
+        let (states, refresh, keepalive) = inputs::parameters(random, faults.has(21));
+        let clock = inputs::start_clock(random, faults.has(18));
+        let length = inputs::watch_length(random, faults.has(FLAT_14));
+        let lent = Lent { record: lent::slots(random, length), ..Lent::default() };
+        let numbers = [states.into(), refresh.into(), keepalive.into(), clock];
+        let (number, after) = self.compare(Call::WatchStart, flat(faults), &numbers, lent, |calls, lent| {
+            calls.watch_start(states, refresh, keepalive, clock, lent.record.part_mut())
+        });
+        if number == 0 {
+            self.watch.copy_from_slice(after.record.part());
+        }
+    }
+
+    /// One event on the watch that the last left, and now and then the start of another sequence. A
+    /// watch that is lent damaged is not gone on with.
+    fn watch_tell(&mut self) {
+        let at_the_limit = self.watch[8] == inputs::CLOCK_MAX;
+        if self.random.one_in(if at_the_limit { 10 } else { 1000 }) {
+            self.watch_start();
+        }
+        let kept_bits = self.watch[5] as u8;
+        let random = &mut self.random;
+        let faults = Faults::among(random, Call::WatchTell.order());
+        let clock = inputs::next_clock(random, &self.watch, faults.has(18));
+        let event = if faults.has(FLAT_21) { inputs::up_to(random, 2, true) } else { random.octet_below(3) };
+        // 12 is for what is kept or for what is told; time passing tells nothing.
+        let bad_kept = faults.has(12) && (event == 0 || random.one_in(2));
+        let (bits, flag) = inputs::bits_and_flag(random, event, kept_bits, faults.has(12) && !bad_kept);
+        let mut watch = inputs::watch(random, &self.watch, faults, bad_kept);
+        let damaged = if faults.none() && random.one_in(4) { Some(random.size_below(9)) } else { None };
+        if let Some(field) = damaged {
+            watch[field] = inputs::damaged(random, &self.watch, field);
+        }
+        let sound = watch == self.watch;
+        if flat(faults).is_none() {
+            self.cases.met(&watch, clock, event, bits, flag);
+        }
+        let record = lent::numbers(random, &watch);
+        let lent = Lent { record, answer: self.answer(4, faults), ..Lent::default() };
+        let numbers = [clock, event.into(), bits.into(), flag.into()];
+        let (number, after) = self.compare(Call::WatchTell, flat(faults), &numbers, lent, |calls, lent| {
+            calls.watch_tell(lent.record.part_mut(), clock, event, bits, flag, lent.answer.part_mut())
+        });
+        match damaged {
+            Some(field) if !sound => self.cases.damaged(field, number),
+            _ if sound && number == 0 => self.watch.copy_from_slice(after.record.part()),
+            _ => {}
+        }
+    }
+
     fn one_input(&mut self, call: Call) {
         match call {
             Call::Send => self.send(),
@@ -351,6 +413,8 @@ impl Run {
             Call::NoiseLevel => self.noise_level(),
             Call::Link => self.link(),
             Call::Taken => self.taken(),
+            Call::WatchStart => self.watch_start(),
+            Call::WatchTell => self.watch_tell(),
         }
     }
 
@@ -439,23 +503,32 @@ fn main() -> ExitCode {
     let (inputs, seed) = (argument(1, INPUTS), argument(2, SEED));
     let mut run = Run {
         random: Random::from_seed(seed),
-        tally: Tally::default(),
+        tally: Tally::new(),
         chains: 0,
         different: 0,
         carried: [100, 0, 0, 0, 0, 0],
+        watch: [16, 10_000, 25_000, 0, 0, 0, 0, 0, 0],
+        cases: Cases::new(),
     };
     for call in Call::ALL {
-        (0..inputs).for_each(|_| run.one_input(call));
+        let times = if call == Call::WatchTell { EVENTS * inputs } else { inputs };
+        (0..times).for_each(|_| run.one_input(call));
     }
     (0..inputs / 10).for_each(|_| run.chain());
 
-    println!("Inputs by call and refusal (seed {seed}; . where document 01 allows none)");
-    run.tally.print();
+    println!("Seed {seed}; . where there can be none\n");
+    let calls = ("Inputs by call and refusal", &run.tally.table);
+    let mut amiss = Vec::new();
+    for (title, table) in std::iter::once(calls).chain(run.cases.tables()) {
+        println!("{title}");
+        table.print();
+        println!();
+        amiss.extend(table.amiss());
+    }
     println!("Chains of 1 to 8 nodes against one node: {}", run.chains);
-    let amiss = run.tally.amiss();
-    amiss.iter().for_each(|pair| println!("amiss: {pair}"));
+    amiss.iter().for_each(|cell| println!("amiss: {cell}"));
     if !amiss.is_empty() {
-        println!("amiss: {} pairs of call and number", amiss.len());
+        println!("amiss: {} cells of the tables", amiss.len());
     }
     let failed = run.different + amiss.len() as u64;
     println!("host: {} compared, {failed} different", run.tally.total() + run.chains);

@@ -1,6 +1,7 @@
 //! Counts which call reached which refusal, and knows which pairs must be reached.
 
-use crate::inputs::{FLAT_13, FLAT_14, FLAT_16};
+use crate::inputs::{FLAT_13, FLAT_14, FLAT_16, FLAT_21};
+use crate::table::Table;
 
 #[derive(Clone, Copy, Debug, PartialEq, Eq)]
 pub enum Call {
@@ -16,10 +17,12 @@ pub enum Call {
     NoiseLevel,
     Link,
     Taken,
+    WatchStart,
+    WatchTell,
 }
 
-pub const CALLS: usize = 12;
-const OUTCOMES: usize = 24;
+pub const CALLS: usize = 14;
+const OUTCOMES: usize = 26;
 
 impl Call {
     pub const ALL: [Call; CALLS] = [
@@ -35,6 +38,8 @@ impl Call {
         Call::NoiseLevel,
         Call::Link,
         Call::Taken,
+        Call::WatchStart,
+        Call::WatchTell,
     ];
 
     pub fn name(self) -> &'static str {
@@ -51,10 +56,12 @@ impl Call {
             Call::NoiseLevel => "noise_level",
             Call::Link => "link",
             Call::Taken => "taken",
+            Call::WatchStart => "watch_start",
+            Call::WatchTell => "watch_tell",
         }
     }
 
-    /// Every refusal that the call can give, in its order: the flat form's, then document 01's.
+    /// Every refusal that the call can give, in its order: the flat form's, then its own.
     pub fn order(self) -> &'static [usize] {
         match self {
             Call::Send => &[FLAT_16, FLAT_13, 14, 13, 6, 12, 11, 10, 15, 16],
@@ -68,6 +75,8 @@ impl Call {
             Call::NoiseLevel => &[FLAT_16, 12],
             Call::Link => &[FLAT_16, 1, 2, 3, 4, 5],
             Call::Taken => &[FLAT_16, 1, 2, 3, 4, 5, 6, 7, 8, 9],
+            Call::WatchStart => &[FLAT_14, 21, 18],
+            Call::WatchTell => &[FLAT_16, FLAT_21, FLAT_14, 21, 14, 18, 12],
         }
     }
 
@@ -82,66 +91,34 @@ fn label(outcome: usize) -> String {
         FLAT_13 => "flat 13".into(),
         FLAT_14 => "flat 14".into(),
         FLAT_16 => "flat 16".into(),
+        FLAT_21 => "flat 21".into(),
         number => number.to_string(),
     }
 }
 
-#[derive(Default)]
 pub struct Tally {
-    reached: [[u64; OUTCOMES]; CALLS],
+    pub table: Table,
 }
 
 impl Tally {
+    pub fn new() -> Tally {
+        let names = Call::ALL.iter().map(|call| call.name().into()).collect();
+        let outcomes = (0..OUTCOMES).map(label).collect();
+        Tally { table: Table::new(outcomes, names, |outcome, call| Call::ALL[call].allows(outcome)) }
+    }
+
     /// Counts a refusal of the flat form apart, where the input was made to be refused by it.
     pub fn count(&mut self, call: Call, flat: Option<usize>, number: u8) {
         let outcome = match (flat, number) {
-            (Some(FLAT_13), 13) | (Some(FLAT_14), 14) | (Some(FLAT_16), 16) | (None, _) => {
+            (Some(FLAT_13), 13) | (Some(FLAT_14), 14) | (Some(FLAT_16), 16) | (Some(FLAT_21), 21) | (None, _) => {
                 flat.unwrap_or(number.into())
             }
             (Some(expected), _) => panic!("{}: {} was to be reached, not {number}", call.name(), label(expected)),
         };
-        self.reached[call as usize][outcome] += 1;
-    }
-
-    pub fn of_call(&self, call: Call) -> u64 {
-        self.reached[call as usize].iter().sum()
+        self.table.count(outcome, call as usize);
     }
 
     pub fn total(&self) -> u64 {
-        Call::ALL.iter().map(|call| self.of_call(*call)).sum()
-    }
-
-    /// The pairs that should have been reached and were not, or the other way round.
-    pub fn amiss(&self) -> Vec<String> {
-        let mut amiss = Vec::new();
-        for call in Call::ALL {
-            for outcome in 0..OUTCOMES {
-                let reached = self.reached[call as usize][outcome] > 0;
-                if reached != call.allows(outcome) {
-                    let what = if reached { "is not in its order" } else { "was not reached" };
-                    amiss.push(format!("{}, {}: {what}", call.name(), label(outcome)));
-                }
-            }
-        }
-        amiss
-    }
-
-    pub fn print(&self) {
-        print!("{:>8}", "");
-        Call::ALL.iter().for_each(|call| print!(" {:>12}", call.name()));
-        println!();
-        for outcome in 0..OUTCOMES {
-            print!("{:>8}", label(outcome));
-            for call in Call::ALL {
-                match (self.reached[call as usize][outcome], call.allows(outcome)) {
-                    (0, false) => print!(" {:>12}", "."),
-                    (times, _) => print!(" {times:>12}"),
-                }
-            }
-            println!();
-        }
-        print!("{:>8}", "all");
-        Call::ALL.iter().for_each(|call| print!(" {:>12}", self.of_call(*call)));
-        println!();
+        (0..CALLS).map(|call| self.table.of_column(call)).sum()
     }
 }
