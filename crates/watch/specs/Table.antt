@@ -1,4 +1,4 @@
--- G.764 6.2, 6.4 and 6.5: the table of the watch. By the states of both ends and what comes upon the circuit: the states after it, what is sent, and whether conditioning begins or ends.
+-- G.764 6.2, 6.4 and 6.5: the table of the watch. By the states of both ends and what comes upon the circuit: the states after it, what is sent, and whether conditioning begins or ends. The originating end's NORM is NORMAL here, since the terminating end has one too.
 use mathlib.Core.Bool.{Bool, true, false, cond}
 use Rattle.watch.specs.declared.Originating.{Originating}
 use Rattle.watch.specs.declared.Originating.the-variants.{Norm as NORMAL, Alarm as ALARM}
@@ -17,20 +17,23 @@ leaves o t s c = record { originating = o; terminating = t; sends = s; condition
 
 abbrev pub table : Originating → Terminating → Coming → Row
 table o t NoChange = leaves o t Nothing Unchanged
--- the terminating end, 6.4: TSIG_KA has expired, or a frame is taken with N/A 0 or 1
+-- 6.4 2) and 4): TSIG_KA has expired
 table o NORM RunOut = leaves o L-ALARM Nothing Begins
 table o L-ALARM RunOut = leaves o L-ALARM Nothing Unchanged
 table o R-ALARM RunOut = leaves o L-ALARM Nothing Unchanged
+-- 6.4 1), 2) and 3): a signalling frame is taken, with N/A 0
 table o NORM NormalFrame = leaves o NORM Nothing Unchanged
 table o L-ALARM NormalFrame = leaves o NORM Nothing Ends
 table o R-ALARM NormalFrame = leaves o NORM Nothing Ends
+-- 6.4 3) and 5): with N/A 1
 table o NORM AlarmFrame = leaves o R-ALARM Nothing Begins
 table o L-ALARM AlarmFrame = leaves o R-ALARM Nothing Unchanged
 table o R-ALARM AlarmFrame = leaves o R-ALARM Nothing Unchanged
--- the originating end, 6.2: a reading with a facility alarm, or with none and the bits in use as they were or changed
+-- 6.2 and 6.5.1, in either state: a reading with a facility alarm; with none and the bits in use as they were; with none and another state of theirs
 table o t FacilityAlarm = leaves ALARM t Nothing Unchanged
 table o t SameBits = leaves NORMAL t Nothing Unchanged
 table o t ChangedBits = leaves NORMAL t Transition Unchanged
+-- 6.2: TSIG_REF has passed since the last frame was sent
 table NORMAL t RefreshDue = leaves NORMAL t Refresh Unchanged
 table ALARM t RefreshDue = leaves ALARM t Refresh Unchanged
 
@@ -40,7 +43,7 @@ conditioned NORM = false
 conditioned L-ALARM = true
 conditioned R-ALARM = true
 
--- what begins or ends where it was on before, or off, and is after
+-- what an event does to conditioning that was on, or off, before it and is after it
 abbrev pub change : Bool → Bool → Conditioning
 change before after = cond after (cond before Unchanged Begins) (cond before Ends Unchanged)
 
