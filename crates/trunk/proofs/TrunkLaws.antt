@@ -1,22 +1,20 @@
 -- The watch and the frames fit: what is to be sent is what the signalling writer takes, and what the signalling reader answers is what the watch takes.
-use Prim.Native.Nat.{ℕ, zero, suc, _%_, _≤_}
-use mathlib.Core.Path.{_≡_, refl, sym, ap, subst, _∙_}
+use Prim.Native.Nat.{ℕ, zero, suc, _≤_}
+use mathlib.Core.Path.{_≡_, refl, ap}
 use mathlib.Core.Bool.{false}
 use mathlib.Core.List.{List}
 use native.Mathlib.Omega.{arith}
-use borrow.Author.Tests.{ltb-false, le-ltb}
-use Rattle.refusals.specs.Refusals.{_orElse_, ifTaken, addressBad}
-use Rattle.refusals.proofs.RefusalLaws.{if-taken}
+use borrow.Author.Tests.{le-ltb}
+use Rattle.refusals.specs.Refusals.{ifTaken, addressBad}
 use Rattle.frame.specs.Fields.{na, signalBits, stamp}
 use Rattle.onward.specs.Onward.{stampAfter}
 use Rattle.origin.specs.Signal.{signalWritten, signalRefusal}
 use Rattle.origin.proofs.SignalLaws.{taken-signal, signal-read, signal-bits, signal-na, signal-stamp}
-use Rattle.endpoint.specs.declared.SignalHeard.{SignalHeard}
 use Rattle.endpoint.specs.Play.{hold}
 use Rattle.endpoint.specs.Signal.{signalOrder, signalAnswer}
 use Rattle.watch.specs.declared.Watch.{Watch}
 use Rattle.watch.specs.declared.Event.{Event}
-use Rattle.watch.specs.declared.Event.the-variants.{Passing, Frame}
+use Rattle.watch.specs.declared.Event.the-variants.{Frame}
 use Rattle.watch.specs.Watch.{brought12, eventAnswer}
 use Rattle.watch.proofs.EventLaws.{sent-low}
 use Rattle.trunk.specs.Trunk.{eventOf}

@@ -1,5 +1,4 @@
 -- Document 02, A1: what a signalling frame tells the watch.
-use Prim.Native.Nat.{ℕ}
 use Rattle.refusals.specs.Refusals.{ifTaken}
 use Rattle.endpoint.specs.declared.SignalHeard.{SignalHeard}
 use Rattle.watch.specs.declared.Event.{Event}

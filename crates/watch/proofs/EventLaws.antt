@@ -1,31 +1,28 @@
 -- What one event answers: taken, upon a circuit with none, or refused.
-use Prim.Native.Nat.{ℕ, zero, suc, _+_, _*_, _/_, _≤_, _<_}
-use mathlib.Core.Path.{_≡_, refl, sym, ap, subst, _∙_}
-use mathlib.Core.Bool.{Bool, true, false, true≢false, not, cond, _||_}
+use Prim.Native.Nat.{ℕ, zero, suc, _+_, _≤_, _<_}
+use mathlib.Core.Path.{_≡_, refl, sym, ap, _∙_}
+use mathlib.Core.Bool.{Bool, true, false, true≢false, not, cond}
 use native.Mathlib.Omega.{arith}
 use lib.Dec.{ltb, leb, eqb}
-use borrow.Author.Tests.{eq-eqb, ne-eqb, eqb-true, eqb-false, ltb-false, le-ltb, leb-true, leb-false, le-leb}
-use Rattle.octets.proofs.BoolLaws.{or-false, and-true}
-use Rattle.refusals.specs.Refusals.{_orElse_, refuse, ifTaken, refusal12}
-use Rattle.refusals.proofs.RefusalLaws.{orElse-zero, refuse-zero, if-taken, if-refused}
+use borrow.Author.Tests.{eqb-true, eqb-false, ltb-false, le-ltb, leb-false, le-leb}
+use Rattle.octets.proofs.BoolLaws.{or-false}
+use Rattle.refusals.specs.Refusals.{_orElse_, ifTaken}
+use Rattle.refusals.proofs.RefusalLaws.{orElse-zero, refuse-zero}
 use Rattle.watch.specs.declared.Originating.{Originating}
 use Rattle.watch.specs.declared.Originating.the-variants.{Norm as NORMAL, Alarm as ALARM}
 use Rattle.watch.specs.declared.Terminating.{Terminating}
 use Rattle.watch.specs.declared.Terminating.the-variants.{Norm as NORM, LAlarm as L-ALARM, RAlarm as R-ALARM}
-use Rattle.watch.specs.declared.Coming.{Coming}
-use Rattle.watch.specs.declared.Coming.the-variants.{NoChange, RunOut, NormalFrame, AlarmFrame, FacilityAlarm, SameBits, ChangedBits, RefreshDue}
+use Rattle.watch.specs.declared.Coming.the-variants.{NoChange, RunOut, FacilityAlarm, SameBits, ChangedBits}
 use Rattle.watch.specs.declared.Sends.{Sends}
 use Rattle.watch.specs.declared.Sends.the-variants.{Nothing, Transition, Refresh}
-use Rattle.watch.specs.declared.Conditioning.{Conditioning}
-use Rattle.watch.specs.declared.Conditioning.the-variants.{Unchanged, Begins, Ends}
 use Rattle.watch.specs.declared.Row.{Row}
 use Rattle.watch.specs.declared.Watch.{Watch}
 use Rattle.watch.specs.declared.Watched.{Watched}
 use Rattle.watch.specs.declared.Event.{Event}
 use Rattle.watch.specs.declared.Event.the-variants.{Passing, Reading, Frame}
 use Rattle.watch.specs.Table.{table, sendsBoth, conditioned, change}
-use Rattle.watch.specs.Watch.{clockLimit, inUse, brought, sentAfter, standing, judged, eventRow, naOf, ifSent, bitsAfter, refusal21, refusal14, refusal18, brought12, eventRefusal, startRefusal, takenAfter, freshWatch, only, answered, eventAnswer}
-use Rattle.watch.specs.Events.{isFrame, isSent, fits, onAfter}
+use Rattle.watch.specs.Watch.{clockLimit, inUse, brought, sentAfter, standing, judged, eventRow, naOf, ifSent, bitsAfter, refusal21, refusal18, brought12, eventRefusal, startRefusal, takenAfter, freshWatch, only, answered, eventAnswer}
+use Rattle.watch.specs.Events.{isFrame, isSent}
 use Rattle.watch.proofs.TableLaws.{row-left, run-out}
 use Rattle.watch.proofs.WatchLaws.{dueAfter}
 

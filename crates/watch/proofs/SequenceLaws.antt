@@ -1,7 +1,7 @@
 -- What an operator lives by, over any sequence of events upon one watch.
-use Prim.Native.Nat.{ℕ, zero, suc, _+_, _≤_, _<_}
+use Prim.Native.Nat.{ℕ, _+_, _≤_, _<_}
 use mathlib.Core.Path.{_≡_, refl, sym, ap, subst, _∙_}
-use mathlib.Core.Bool.{Bool, true, false, true≢false, _||_, _&&_}
+use mathlib.Core.Bool.{Bool, true, false, true≢false, cond, _||_, _&&_}
 use mathlib.Core.List.{List, [], _∷_}
 use native.Mathlib.Omega.{arith}
 use lib.Dec.{eqb}
@@ -9,19 +9,16 @@ use borrow.Author.Tests.{eqb-true, not-false}
 use Rattle.octets.proofs.BoolLaws.{and-true}
 use Rattle.refusals.specs.Refusals.{_orElse_, ifTaken}
 use Rattle.refusals.proofs.RefusalLaws.{refuse-zero}
-use Rattle.watch.specs.declared.Terminating.{Terminating}
-use Rattle.watch.specs.declared.Terminating.the-variants.{Norm as NORM, LAlarm as L-ALARM, RAlarm as R-ALARM}
+use Rattle.watch.specs.declared.Terminating.the-variants.{Norm as NORM, LAlarm as L-ALARM}
 use Rattle.watch.specs.declared.Sends.{Sends}
 use Rattle.watch.specs.declared.Sends.the-variants.{Nothing, Transition, Refresh}
-use Rattle.watch.specs.declared.Conditioning.{Conditioning}
-use Rattle.watch.specs.declared.Conditioning.the-variants.{Unchanged, Begins, Ends}
+use Rattle.watch.specs.declared.Conditioning.the-variants.{Unchanged}
 use Rattle.watch.specs.declared.Watch.{Watch}
 use Rattle.watch.specs.declared.Watched.{Watched}
 use Rattle.watch.specs.declared.Event.{Event}
-use Rattle.watch.specs.declared.Event.the-variants.{Passing}
 use Rattle.watch.specs.Table.{conditioned, change}
-use Rattle.watch.specs.Watch.{refreshOffered, statesOffered, keepAliveOffered, refusal18, brought12, takenAfter, sentAfter, standing, eventRow, startRefusal, freshWatch, answered, eventAnswer}
-use Rattle.watch.specs.Events.{Told, answerTo, Runs, watchAfter, answers, isFrame, lastFrame, fits, onAfter, InTurn, isSent, Silent, EveryMs, SentWithin}
+use Rattle.watch.specs.Watch.{refreshOffered, statesOffered, keepAliveOffered, refusal18, brought12, takenAfter, sentAfter, eventRow, startRefusal, freshWatch, answered, eventAnswer}
+use Rattle.watch.specs.Events.{Told, answerTo, Runs, watchAfter, answers, isFrame, lastFrame, fits, onAfter, InTurn, isSent, sentAt, lastSent, Silent, EveryMs, SentWithin}
 use Rattle.watch.proofs.EventLaws.{by-answer, answer-taken, answer-number, left-change, ran-out, due-sent, none-due, Sound, accepted, sound-order, start-sound, sound-after}
 
 -- the outcomes of any sequence of calls are the fold's
@@ -127,6 +124,11 @@ unfolding watchAfter
 same-keep-alive w [] = refl
 same-keep-alive w (x ∷ xs) = same-keep-alive (answerTo w x .after) xs ∙ kept-alive w x
 
+same-often : (w : Watch) (xs : List Told) → watchAfter w xs .refresh ≡ w .refresh
+unfolding watchAfter
+same-often w [] = refl
+same-often w (x ∷ xs) = same-often (answerTo w x .after) xs ∙ same-refresh w x
+
 -- a dead trunk is taken out of service: whatever came before, an event without a frame TSIG_KA or more past the last frame taken, or the start, leaves L_ALARM, where conditioning is on
 module _ (states refresh keepalive from : ℕ) (xs : List Told) (clock : ℕ) (e : Event) where
   abbrev before : Watch
@@ -152,12 +154,46 @@ none-silent w (x ∷ xs) k =
     let one = by-answer w (x .clock) (x .event) (λ a. (a .sends ≡ Nothing) × (a .conditioning ≡ Unchanged)) (λ z h. absurd (h k)) (λ z h. (refl, refl)) (λ n z. (refl, refl)) in
     (one .0, one .1, none-silent (answerTo w x .after) xs (same-states w x ∙ k))
 
+-- the clock kept is that of the last frame sent
+sent-is : (s : Sends) (clock last : ℕ) → sentAfter s clock last ≡ cond (isSent s) clock last
+sent-is Nothing clock last = refl
+sent-is Transition clock last = refl
+sent-is Refresh clock last = refl
+
+sent-kept : (w : Watch) (x : Told) → answerTo w x .after .lastsent ≡ sentAt (w .lastsent) w x
+unfolding answered
+sent-kept w x =
+    by-answer w (x .clock) (x .event) (λ a. a .after .lastsent ≡ cond (isSent (a .sends)) (x .clock) (w .lastsent))
+    (λ z h. sent-is (eventRow w (x .clock) (x .event) .sends) (x .clock) (w .lastsent))
+    (λ z h. refl)
+    (λ n z. refl)
+
+pub last-sent : (w : Watch) (xs : List Told) → watchAfter w xs .lastsent ≡ lastSent (w .lastsent) w xs
+unfolding watchAfter lastSent
+last-sent w [] = refl
+last-sent w (x ∷ xs) =
+    last-sent (answerTo w x .after) xs
+    ∙ ap (λ (from : ℕ). lastSent from (answerTo w x .after) xs) (sent-kept w x)
+
 -- a refresh is due, and a frame is sent
 pub due-answered : (w : Watch) (x : Told) → (w .states ≡ 0 → ⊥) → answerTo w x .refusal ≡ 0 → w .lastsent + w .refresh ≤ x .clock → isSent (answerTo w x .sends) ≡ true
 unfolding answered
 due-answered w x k z h =
     ap (λ (a : Watched). isSent (a .sends)) (answer-taken w (x .clock) (x .event) (sym (answer-number w (x .clock) (x .event)) ∙ z) k)
     ∙ due-sent w (x .clock) (x .event) h
+
+-- whatever came before, an event TSIG_REF or more past the last frame sent, or the start, sends one, in NORM and in ALARM
+pub refreshed : (states refresh keepalive from : ℕ) (xs : List Told) (x : Told) → (states ≡ 0 → ⊥)
+    → (w : Watch) → w ≡ watchAfter (freshWatch states refresh keepalive from) xs
+    → answerTo w x .refusal ≡ 0
+    → lastSent from (freshWatch states refresh keepalive from) xs + refresh ≤ x .clock
+    → isSent (answerTo w x .sends) ≡ true
+refreshed states refresh keepalive from xs x k w is z h =
+    let first = freshWatch states refresh keepalive from in
+    let kept : w .lastsent ≡ lastSent from first xs = ap (λ (v : Watch). v .lastsent) is ∙ last-sent first xs in
+    let often : w .refresh ≡ refresh = ap (λ (v : Watch). v .refresh) is ∙ same-often first xs in
+    due-answered w x (λ q. k (sym (ap (λ (v : Watch). v .states) is ∙ same-provision first xs) ∙ q)) z
+    (subst (λ (n : ℕ). n + w .refresh ≤ x .clock) (sym kept) (subst (λ (n : ℕ). lastSent from first xs + n ≤ x .clock) (sym often) h))
 
 offered-positive : (ms : ℕ) → refreshOffered ms ≡ true → 0 < ms
 offered-positive ms = go (eqb ms 1000) refl (eqb ms 5000) refl (eqb ms 10000) refl (eqb ms 20000) refl where
@@ -195,11 +231,13 @@ pub sent-within : (w : Watch) (xs : List Told) → (w .states ≡ 0 → ⊥) →
     → EveryMs w xs → SentWithin (w .refresh) (w .lastsent) w xs
 unfolding EveryMs SentWithin
 sent-within w [] k near h = near
-sent-within w (x ∷ xs) k near h = (
-  λ sent. omega (arith, near, h .1),
-  subst (λ (ms : ℕ). SentWithin ms (answerTo w x .after .lastsent) (answerTo w x .after) xs) (same-refresh w x)
-      (sent-within (answerTo w x .after) xs (λ z. k (sym (same-states w x) ∙ z)) (answer-near w x k (h .0)) (h .2)),
-)
+sent-within w (x ∷ xs) k near h =
+    let next = answerTo w x .after in (
+      λ sent. omega (arith, near, h .1),
+      subst (λ (from : ℕ). SentWithin (w .refresh) from next xs) (sent-kept w x)
+          (subst (λ (ms : ℕ). SentWithin ms (next .lastsent) next xs) (same-refresh w x)
+          (sent-within next xs (λ z. k (sym (same-states w x) ∙ z)) (answer-near w x k (h .0)) (h .2))),
+    )
 
 pub started-within : (states refresh keepalive from : ℕ) (xs : List Told) → (states ≡ 0 → ⊥) → startRefusal states refresh keepalive from ≡ 0
     → EveryMs (freshWatch states refresh keepalive from) xs → SentWithin refresh from (freshWatch states refresh keepalive from) xs

@@ -8,7 +8,7 @@ use Rattle.watch.specs.declared.Terminating.the-variants.{Norm as NORM, 
 use Rattle.watch.specs.declared.Coming.{Coming}
 use Rattle.watch.specs.declared.Coming.the-variants.{NoChange, RunOut, NormalFrame, AlarmFrame, FacilityAlarm, SameBits, ChangedBits, RefreshDue}
 use Rattle.watch.specs.declared.Sends.{Sends}
-use Rattle.watch.specs.declared.Sends.the-variants.{Nothing, Transition, Refresh}
+use Rattle.watch.specs.declared.Sends.the-variants.{Nothing, Refresh}
 use Rattle.watch.specs.declared.Conditioning.{Conditioning}
 use Rattle.watch.specs.declared.Conditioning.the-variants.{Unchanged, Begins, Ends}
 use Rattle.watch.specs.declared.Row.{Row}

@@ -1,11 +1,8 @@
 -- The order and the row of an event, put together from what is found on the way.
-use Prim.Native.Nat.{ℕ, _+_, _-_, _≤_, _<_}
-use mathlib.Core.Path.{_≡_}
-use mathlib.Core.Bool.{true, false}
-use native.Mathlib.Omega.{arith}
+use Prim.Native.Nat.{ℕ, _+_, _-_}
+use mathlib.Core.Path.{_≡_, refl, sym}
 use lib.Dec.{leb}
 use mathlib.Core.Bool.{Bool, cond}
-use mathlib.Core.Path.{refl, sym}
 use Rattle.refusals.specs.Refusals.{_orElse_}
 use Rattle.watch.specs.declared.Originating.{Originating}
 use Rattle.watch.specs.declared.Terminating.{Terminating}
@@ -19,7 +16,6 @@ use Rattle.watch.specs.declared.Event.{Event}
 use Rattle.watch.specs.Table.{table, sendsBoth, conditioned, change}
 use Rattle.watch.specs.Watch.{keepAlive, brought, sentAfter, judged, eventRow}
 use Rattle.watch.proofs.TableLaws.{row-left}
-use borrow.Author.Tests.{le-leb, lt-leb}
 
 -- the order's number, of numbers that were found beforehand
 pub order-is : (a b c d e r21 r14 r18 kept came n₁ n₂ n₃ n : ℕ) → r21 ≡ a → r14 ≡ b → r18 ≡ c → kept ≡ d → came ≡ e

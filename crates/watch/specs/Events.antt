@@ -1,7 +1,7 @@
 -- Document 02, A1, over any sequence of events upon one watch: the watch and the answers that they leave, and what is promised of them.
 use Prim.Native.Nat.{ℕ, _+_, _≤_, _<_}
 use mathlib.Core.Path.{_≡_}
-use mathlib.Core.Bool.{Bool, true, false, not}
+use mathlib.Core.Bool.{Bool, true, false, not, cond}
 use mathlib.Core.List.{List, [], _∷_}
 use Rattle.refusals.specs.Refusals.{ifTaken}
 use Rattle.watch.specs.declared.Watch.{Watch}
@@ -49,6 +49,19 @@ lastFrame from w [] = from
 lastFrame from w (x ∷ xs) =
     lastFrame (ifTaken (answerTo w x .refusal) (takenAfter (x .event) (x .clock) from) from) (answerTo w x .after) xs
 
+abbrev pub isSent : Sends → Bool
+isSent Nothing = false
+isSent Transition = true
+isSent Refresh = true
+
+-- the clock of the last frame sent, of either kind, or `from` if there was none
+abbrev pub sentAt : ℕ → Watch → Told → ℕ
+sentAt from w x = cond (isSent (answerTo w x .sends)) (x .clock) from
+
+unfoldable pub lastSent : ℕ → Watch → List Told → ℕ
+lastSent from w [] = from
+lastSent from w (x ∷ xs) = lastSent (sentAt from w x) (answerTo w x .after) xs
+
 -- conditioning begins only where it is off and ends only where it is on
 abbrev pub fits : Bool → Conditioning → Bool
 fits on Unchanged = true
@@ -65,11 +78,6 @@ unfoldable pub InTurn : Bool → List Watched → Bool → Type 0
 InTurn on [] end = on ≡ end
 InTurn on (a ∷ rest) end = (fits on (a .conditioning) ≡ true) × InTurn (onAfter on (a .conditioning)) rest end
 
-abbrev pub isSent : Sends → Bool
-isSent Nothing = false
-isSent Transition = true
-isSent Refresh = true
-
 -- nothing is ever sent or conditioned
 unfoldable pub Silent : List Watched → Type 0
 Silent [] = Unit {0}
@@ -85,4 +93,4 @@ unfoldable pub SentWithin : ℕ → ℕ → Watch → List Told → Type 0
 SentWithin ms from w [] = w .lastclock < from + ms
 SentWithin ms from w (x ∷ xs) =
     (isSent (answerTo w x .sends) ≡ true → x .clock ≤ from + ms)
-    × SentWithin ms (answerTo w x .after .lastsent) (answerTo w x .after) xs
+    × SentWithin ms (sentAt from w x) (answerTo w x .after) xs

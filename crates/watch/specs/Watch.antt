@@ -1,6 +1,6 @@
 -- Document 02, A1: a circuit's watch. What a circuit may be provisioned with, the refusals, and what an event answers by the table.
 use Prim.Native.Nat.{ℕ, _+_, _*_, _/_, _^_}
-use mathlib.Core.Bool.{Bool, true, false, not, cond, _&&_, _||_}
+use mathlib.Core.Bool.{Bool, not, cond, _&&_, _||_}
 use lib.Dec.{ltb, leb, eqb}
 use Rattle.refusals.specs.Refusals.{_orElse_, refuse, ifTaken, refusal12}
 use Rattle.watch.specs.Table.{comes}

@@ -1,5 +1,4 @@
 use Rattle.watch.specs.Watch.{answered}
-use borrow.Author.Needs.{needs}
 use Rattle.watch.proofs.answered.Statement.{statement}
 use Rattle.watch.proofs.answered.Tie as tie
 

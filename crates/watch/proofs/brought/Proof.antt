@@ -1,4 +1,4 @@
-use borrow.Author.Tests.{eq-eqb, ne-eqb}
+use borrow.Author.Tests.{ne-eqb}
 use borrow.Author.Needs.{needs}
 use Rattle.watch.proofs.brought.Statement.{statement}
 use Rattle.watch.proofs.brought.Tie as tie

@@ -1,7 +1,6 @@
 use Rattle.watch.proofs.WatchLaws.{order-is}
 use Rattle.refusals.specs.Refusals.{refusal12}
 use Rattle.watch.specs.Watch.{refusal21, refusal14, refusal18, brought12, eventRefusal}
-use borrow.Author.Needs.{needs}
 use Rattle.watch.proofs.event_refusal.Statement.{statement}
 use Rattle.watch.proofs.event_refusal.Tie as tie
 

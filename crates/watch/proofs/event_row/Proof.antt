@@ -1,6 +1,5 @@
 use Rattle.watch.proofs.WatchLaws.{row-is}
 use mathlib.Core.Path.{_∙_}
-use borrow.Author.Needs.{needs}
 use Rattle.watch.proofs.event_row.Statement.{statement}
 use Rattle.watch.proofs.event_row.Tie as tie
 

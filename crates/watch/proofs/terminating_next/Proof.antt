@@ -1,7 +1,5 @@
 use Rattle.watch.proofs.TableLaws.{run-out, normal-frame, alarm-frame, refresh-due}
 use mathlib.Core.Path.{refl}
-use mathlib.Core.Path.{refl, sym}
-use borrow.Author.Needs.{needs}
 use Rattle.watch.proofs.terminating_next.Statement.{statement}
 use Rattle.watch.proofs.terminating_next.Tie as tie
 
