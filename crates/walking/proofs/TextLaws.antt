@@ -62,3 +62,14 @@ pub left-to-put : {a : List ℕ} {room at end : ℕ} {l m : List ℕ} (b : List 
     → (at + length (a ++ b) ≡ end + length b) × (sets l at (a ++ b) ≡ sets m end b)
 left-to-put {a} {at = at} {l = l} b p =
     (rw length-append (omega arith), sets-append a b l at ∙ cc (p .holds, p .ends))
+
+-- a turn of the loop that puts a line: its next number is put
+module _ (ns l m : List ℕ) (i after end next : ℕ) (h : i < length ns) (w : after ≡ afterNumber (length ns - 1 - i)) (p : Put (number (getD ns i 0) after) 21 end next l m) where
+  next-number : number (getD ns i 0) after ++ line (drop (i + 1) ns) ≡ line (drop i ns)
+  next-number = ap (λ (a : ℕ). number (getD ns i 0) a ++ line (drop (i + 1) ns)) w ∙ sym (line-more ns i h)
+
+  pub ends-then : (whole : ℕ) → end + length (line (drop i ns)) ≡ whole → next + length (line (drop (i + 1) ns)) ≡ whole
+  ends-then whole e = sym (left-to-put (line (drop (i + 1) ns)) p .0) ∙ ap (λ (t : List ℕ). end + length t) next-number ∙ e
+
+  pub holds-then : (x : List ℕ) → sets l end (line (drop i ns)) ≡ x → sets m next (line (drop (i + 1) ns)) ≡ x
+  holds-then x e = sym (left-to-put (line (drop (i + 1) ns)) p .1) ∙ ap (sets l end) next-number ∙ e

@@ -1,13 +1,37 @@
-use mathlib.Core.Path.{_≡_, sym}
+use Prim.Native.Nat.{ℕ, min}
+use mathlib.Core.Path.{_≡_, sym, ap, ap₂, _∙_}
+use mathlib.Core.List.{List, [], _∷_}
 use native.Mathlib.Omega.{arith}
-use lib.ListN.{take}
+use lib.ListN.{length, take}
 use lib.Seq.{length-take-le}
-use Rattle.walking.specs.Walk.{arriving, byEndpoint}
+use Rattle.endpoint.specs.Arrival.{arrivalOf}
+use Rattle.endpoint.specs.declared.Arrived.{Arrived}
+use Rattle.walking.specs.declared.State.{State}
+use Rattle.walking.specs.Walk.{four, told, arriving, byEndpoint}
 use Rattle.walking.specs.Held.{carriedOf}
 use Rattle.walking.proofs.OutcomeLaws.{take-within}
 use borrow.Author.Needs.{needs}
 use Rattle.walking.proofs.by_endpoint.Statement.{statement}
 use Rattle.walking.proofs.by_endpoint.Tie as tie
+
+-- the outcome, of the steps on the way to it: n octets of the buffer are the frame
+arrived : (state : State) (whole : List ℕ) (n clock : ℕ) (buffer : List ℕ) (q : Arrived) (t : List ℕ)
+    → n ≡ min (state .length) 138 → buffer ≡ state .frame → length buffer ≡ 138 → clock ≡ four 5 whole → q ≡ arrivalOf (state .endpoint) (take n buffer) clock
+    → t ≡ told (state .number) 3 (q .answer .refusal) (take n buffer) (q .answer .due ∷ q .answer .dropped ∷ [])
+    → record {
+      carried = record { number = state .number; sseq = state .sseq; endpoint = q .after; frame = take (state .length) buffer };
+      told = t;
+    } ≡ byEndpoint (carriedOf state) whole
+unfolding byEndpoint
+arrived state whole n clock buffer q t pn pb pl pc pq pt =
+    let w : take n buffer ≡ take (state .length) (state .frame) =
+    ap (λ (k : ℕ). take k buffer) pn ∙ take-within (state .length) 138 buffer pl ∙ ap (take (state .length)) pb in
+    let e : q ≡ arriving (carriedOf state) whole = pq ∙ ap₂ (arrivalOf (state .endpoint)) w pc in
+    ap₂ (λ (f l : List ℕ). record { carried = record { number = state .number; sseq = state .sseq; endpoint = q .after; frame = f }; told = l }) (ap (take (state .length)) pb) (pt ∙ ap (λ (f : List ℕ). told (state .number) 3 (q .answer .refusal) f (q .answer .due ∷ q .answer .dropped ∷ [])) w)
+    ∙ ap (λ (x : Arrived). record {
+      carried = record { number = state .number; sseq = state .sseq; endpoint = x .after; frame = take (state .length) (state .frame) };
+      told = told (state .number) 3 (x .answer .refusal) (take (state .length) (state .frame)) (x .answer .due ∷ x .answer .dropped ∷ []);
+    }) e
 
 four-octets-requires : tie.Need-four-octets-requires
 four-octets-requires c κs = search needs
@@ -43,17 +67,13 @@ tell-requires : tie.Need-tell-requires
 tell-requires c κs = search needs
 
 returns : tie.Need-returns
-unfolding byEndpoint
 returns c =
-    let a = c .before .before .before .before .before .before .before .before .before .before .before .before .before .args in
+    let z = c .before .before .before .before .before .before .before .before in
+    let n = z .before .before .lesser in
+    let k = z .before .before .before .four-octets in
     let q = c .before .before .before .before .before .arrive-value in
-    let z = c .before .before .before .before .before .before .before .before .sized in
-    let t = c .tell in
-    let s = carriedOf (a .state) in
-    let w : take (c .before .before .before .before .before .before .before .before .before .before .lesser .result) (z .result) ≡ take (a .state .length) (a .state .frame) =
-    cc (c .before .before .before .before .before .before .before .before .before .before .lesser .ensures, take-within (a .state .length) 138 (z .result) (z .ensures .1), z .ensures .0) in
-    let e : q .result ≡ arriving s (a .whole .now) = cc (q .ensures, w, c .before .before .before .before .before .before .before .before .before .before .before .four-octets .ensures) in
-    (cc (t .ensures .0, w, e, z .ensures .0), t .ensures .1)
+    let a = z .before .before .before .before .before .args in
+    (arrived (a .state) (a .whole .now) (n .result) (k .result) (z .sized .result) (q .result) (take (c .tell .result .count) (c .tell .result .numbers)) (n .ensures) (z .sized .ensures .0) (z .sized .ensures .1) (k .ensures) (q .ensures) (c .tell .ensures .0), c .tell .ensures .1)
 
 pub by-endpoint-spec : {M : Type 1} → statement M
 by-endpoint-spec =

@@ -1,13 +1,38 @@
-use Prim.Native.Nat.{ℕ}
+use Prim.Native.Nat.{ℕ, _-_, min}
 use mathlib.Core.Path.{_≡_, ap, _∙_}
+use mathlib.Core.List.{List}
+use lib.ListN.{length, take, drop}
+use Rattle.octets.specs.Octets.{octet}
+use Rattle.onward.specs.Onward.{waitOf}
 use Rattle.onward.specs.Sent.{sentAnswer, sentBuffer}
+use Rattle.onward.specs.declared.Sent.{Sent}
+use Rattle.origin.specs.Burst.{stepNumbered}
+use Rattle.origin.specs.declared.Step.{Step}
 use Rattle.origin.specs.Send.{sendRefusal, sendWritten, sendAnswer, sendBuffer, sendSseq}
-use Rattle.walking.specs.Walk.{sending, room, made, byOrigin}
+use Rattle.walking.specs.declared.State.{State}
+use Rattle.walking.specs.Walk.{four, sending, room, made, byOrigin}
 use Rattle.walking.specs.Held.{carriedOf}
 use Rattle.walking.proofs.OutcomeLaws.{tail-within}
 use borrow.Author.Needs.{needs}
 use Rattle.walking.proofs.by_origin.Statement.{statement}
 use Rattle.walking.proofs.by_origin.Tie as tie
+
+-- what the origin answers and leaves, of the steps on the way to it
+sent-out : (state : State) (whole : List ℕ) (number coding noise level wait start : ℕ) (step : Step) (buffer : List ℕ)
+    → number ≡ octet 5 whole → step ≡ stepNumbered number → coding ≡ octet 6 whole → noise ≡ octet 7 whole → level ≡ octet 8 whole → wait ≡ four 9 whole
+    → start ≡ min 12 (length whole) → buffer ≡ state .frame → length buffer ≡ 138
+    → (sent : Sent) (x : List ℕ) (sseq : ℕ)
+    → sent ≡ sendAnswer (state .sseq) step coding noise (take (length whole - start) (drop start whole)) level (waitOf 0 wait) 128 buffer
+    → x ≡ sendBuffer (state .sseq) step coding noise (take (length whole - start) (drop start whole)) level (waitOf 0 wait) 128 buffer
+    → sseq ≡ sendSseq (state .sseq) step coding noise (take (length whole - start) (drop start whole)) level (waitOf 0 wait) 128 (length buffer)
+    → (sent ≡ sentAnswer (sending sendRefusal (carriedOf state) whole room) (sending sendWritten (carriedOf state) whole))
+    × (x ≡ sentBuffer (sending sendRefusal (carriedOf state) whole room) (sending sendWritten (carriedOf state) whole) (state .frame))
+    × (sseq ≡ sending sendSseq (carriedOf state) whole room)
+unfolding sendAnswer sendBuffer
+sent-out state whole number coding noise level wait start step buffer pm ps pt pn pl pw pk pb size sent x sseq es ex eq =
+    let v : take (length whole - start) (drop start whole) ≡ drop 12 whole =
+    ap (λ (k : ℕ). take (length whole - k) (drop k whole)) pk ∙ tail-within 12 whole in
+    (es ∙ rw (ps, pm, pt, pn, pl, pw, v, size), ex ∙ rw (ps, pm, pt, pn, pl, pw, v, size, pb), eq ∙ rw (ps, pm, pt, pn, pl, pw, v, size))
 
 at-requires : tie.Need-at-requires
 at-requires c κs = search needs
@@ -61,28 +86,21 @@ made-requires : tie.Need-made-requires
 made-requires c κs = search needs
 
 returns : tie.Need-returns
-unfolding byOrigin sendAnswer sendBuffer
+unfolding byOrigin
 returns c =
-    let a = c .before .before .before .before .before .before .before .before .before .before .before .before .before .before .before .before .args in
     let q = c .before .before .send in
-    let z = c .before .before .before .before .before .before .sized in
-    let s = carriedOf (a .state) in
-    let t = tail-within 12 (a .whole .now) in
-    let sn = c .before .before .before .before .before .before .before .before .before .before .before .before .before .step-numbered .ensures in
-    let a₅ = c .before .before .before .before .before .before .before .before .before .before .before .before .before .before .at .ensures .0 in
-    let a₆ = c .before .before .before .before .before .before .before .before .before .before .before .before .at2 .ensures .0 in
-    let a₇ = c .before .before .before .before .before .before .before .before .before .before .before .at3 .ensures .0 in
-    let a₈ = c .before .before .before .before .before .before .before .before .before .before .at4 .ensures .0 in
-    let w = c .before .before .before .before .before .before .before .before .before .four-octets .ensures in
-    let n = c .before .before .before .before .before .before .before .before .lesser .ensures in
-    let l = z .ensures .1 in
-    let es : q .result ≡ sentAnswer (sending sendRefusal s (a .whole .now) room) (sending sendWritten s (a .whole .now)) =
-    q .ensures .0 ∙ rw (sn, a₅, a₆, a₇, a₈, w, n, t, l) in
-    let eb : q .last .1 .1 .1 .1 .1 .1 .1 .1 .1 .0 ≡ sentBuffer (sending sendRefusal s (a .whole .now) room) (sending sendWritten s (a .whole .now)) (a .state .frame) =
-    q .ensures .1 .0 ∙ rw (sn, a₅, a₆, a₇, a₈, w, n, t, l, z .ensures .0) in
-    let eq : q .last .0 ≡ sending sendSseq s (a .whole .now) room = q .ensures .1 .1 ∙ rw (sn, a₅, a₆, a₇, a₈, w, n, t, l) in (
-      c .made .ensures .0 (sending sendRefusal s (a .whole .now) room) (sending sendWritten s (a .whole .now)) es eb
-          ∙ ap (λ (k : ℕ). made s 1 k (sending sendRefusal s (a .whole .now) room) (sending sendWritten s (a .whole .now))) eq,
+    let z = c .before .before .before .before .before .before in
+    let k = z .before .before .lesser in
+    let w = z .before .before .before .four-octets in
+    let l = z .before .before .before .before .at4 in
+    let n = z .before .before .before .before .before .at3 in
+    let t = z .before .before .before .before .before .before .at2 in
+    let p = z .before .before .before .before .before .before .before in
+    let m = p .before .at in
+    let a = p .before .before .before .args in
+    let o = sent-out (a .state) (a .whole .now) (m .result) (t .result) (n .result) (l .result) (w .result) (k .result) (p .step-numbered .result) (z .sized .result) (m .ensures .0) (p .step-numbered .ensures) (t .ensures .0) (n .ensures .0) (l .ensures .0) (w .ensures) (k .ensures) (z .sized .ensures .0) (z .sized .ensures .1) (q .result) (q .last .1 .1 .1 .1 .1 .1 .1 .1 .1 .0) (q .last .0) (q .ensures .0) (q .ensures .1 .0) (q .ensures .1 .1) in (
+      c .made .ensures .0 (sending sendRefusal (carriedOf (a .state)) (a .whole .now) room) (sending sendWritten (carriedOf (a .state)) (a .whole .now)) (o .0) (o .1)
+          ∙ ap (λ (i : ℕ). made (carriedOf (a .state)) 1 i (sending sendRefusal (carriedOf (a .state)) (a .whole .now) room) (sending sendWritten (carriedOf (a .state)) (a .whole .now))) (o .2),
       c .made .ensures .1,
     )
 

@@ -1,15 +1,42 @@
-use mathlib.Core.Path.{_≡_, sym, ap, _∙_}
+use Prim.Native.Nat.{ℕ, min}
+use mathlib.Core.Path.{_≡_, sym, ap, ap₂, _∙_}
+use mathlib.Core.Bool.{cond}
+use mathlib.Core.List.{List, [], _∷_}
 use native.Mathlib.Omega.{arith}
-use lib.ListN.{take}
+use lib.Dec.{eqb}
+use lib.ListN.{length, take}
 use lib.Seq.{length-take-le}
 use Rattle.refusals.specs.Refusals.{ifTaken}
+use Rattle.frame.specs.Fields.{fieldC}
+use Rattle.onward.specs.Sent.{sentAnswer, sentBuffer}
 use Rattle.onward.specs.declared.Sent.{Sent}
 use Rattle.onward.proofs.SentLaws.{answered}
-use Rattle.walking.specs.Walk.{made}
+use Rattle.walking.specs.declared.State.{State}
+use Rattle.walking.specs.Walk.{told, made}
+use Rattle.walking.specs.Held.{carriedOf}
 use Rattle.walking.proofs.OutcomeLaws.{take-within, told-frame, kept-frame}
 use borrow.Author.Needs.{needs}
 use Rattle.walking.proofs.made.Statement.{statement}
 use Rattle.walking.proofs.made.Tie as tie
+
+-- the outcome, of the steps on the way to it: k octets of the buffer are the frame, and n of them are told of
+whole-of : (state : State) (kind sseq : ℕ) (sent : Sent) (buffer : List ℕ) (k n last : ℕ) (t : List ℕ) → length buffer ≡ 138
+    → k ≡ cond (eqb (sent .refusal) 0) (sent .length) (state .length) → n ≡ min k 138 → last ≡ fieldC (take n buffer)
+    → t ≡ told (state .number) kind (sent .refusal) (take n buffer) (last ∷ [])
+    → (refusal : ℕ) (written : List ℕ) → sent ≡ sentAnswer refusal written → buffer ≡ sentBuffer refusal written (state .frame)
+    → record { carried = record { number = state .number; sseq = sseq; endpoint = state .endpoint; frame = take k buffer }; told = t } ≡ made (carriedOf state) kind sseq refusal written
+unfolding made
+whole-of state kind sseq sent buffer k n last t size pk pn pl pt refusal written es eb =
+    let r : sent .refusal ≡ refusal = ap (λ (x : Sent). x .refusal) es ∙ answered refusal written in
+    let k′ : k ≡ cond (eqb refusal 0) (sentAnswer refusal written .length) (state .length) =
+    pk ∙ ap₂ (λ (x y : ℕ). cond (eqb x 0) y (state .length)) r (ap (λ (x : Sent). x .length) es) in
+    let f : take k buffer ≡ ifTaken refusal written (take (state .length) (state .frame)) =
+    ap₂ take k′ eb ∙ kept-frame refusal written (state .frame) (state .length) in
+    let g : take n buffer ≡ take k buffer = ap (λ (x : ℕ). take x buffer) pn ∙ take-within k 138 buffer size in
+    let w = told-frame (state .number) kind refusal (take n buffer) written (λ z. g ∙ f ∙ rw z) in
+    let u : t ≡ told (state .number) kind refusal (take n buffer) (fieldC (take n buffer) ∷ []) =
+    pt ∙ ap₂ (λ (x y : ℕ). told (state .number) kind x (take n buffer) (y ∷ [])) r pl in
+    ap₂ (λ (x l : List ℕ). record { carried = record { number = state .number; sseq = sseq; endpoint = state .endpoint; frame = x }; told = l }) f (u ∙ w)
 
 pick-requires : tie.Need-pick-requires
 pick-requires c κs = search needs
@@ -36,21 +63,14 @@ tell-requires : tie.Need-tell-requires
 tell-requires c κs = search needs
 
 returns : tie.Need-returns
-unfolding made
 returns c =
-    let a = c .before .before .before .before .before .before .before .args in
     let t = c .before .tell in
-    let n = c .before .before .before .before .before .lesser .ensures in
-    let k = c .before .before .before .before .before .before .pick in (
-      λ refusal written es eb.
-          let r : a .sent .refusal ≡ refusal = ap (λ (x : Sent). x .refusal) es ∙ answered refusal written in
-          let f : take (k .result) (a .t5) ≡ ifTaken refusal written (take (a .state .length) (a .state .frame)) =
-          cc (k .ensures, kept-frame refusal written (a .state .frame) (a .state .length), es, eb, r) in
-          let g : take (c .before .before .before .before .before .lesser .result) (a .t5) ≡ take (k .result) (a .t5) = rw n (take-within (k .result) 138 (a .t5) (omega (arith, c .before .before .before .before .before .before .before .good))) in
-          let w = told-frame (a .state .number) (a .kind) refusal (take (c .before .before .before .before .before .lesser .result) (a .t5)) written (λ z. g ∙ f ∙ rw z) in
-          cc (f, w, r, t .ensures .0, c .before .before .before .field-c .ensures .0),
-      t .ensures .1,
-    )
+    let f = c .before .before .before .field-c in
+    let l = c .before .before .before .before .before in
+    let k = l .before .pick in
+    let s = l .before .before in
+    let a = s .args in
+    (whole-of (a .state) (a .kind) (a .sseq) (a .sent) (a .t5) (k .result) (l .lesser .result) (f .result) (take (t .result .count) (t .result .numbers)) (omega (arith, s .good)) (k .ensures) (l .lesser .ensures) (f .ensures .0) (t .ensures .0), t .ensures .1)
 
 pub made-spec : {M : Type 1} → statement M
 made-spec =

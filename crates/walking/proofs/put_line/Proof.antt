@@ -1,10 +1,10 @@
-use Prim.Native.Nat.{_+_, _*_, _-_, _≤_}
+use Prim.Native.Nat.{ℕ, _+_, _*_, _-_, _≤_, _<_}
 use mathlib.Core.Path.{_≡_, refl, sym, ap, _∙_}
 use native.Mathlib.Omega.{arith}
 use lib.ListN.{length, drop}
 use lib.Seq.{sets}
 use Rattle.walking.specs.Text.{line}
-use Rattle.walking.proofs.TextLaws.{line-none, line-more, left-to-put}
+use Rattle.walking.proofs.TextLaws.{line-none, ends-then, holds-then}
 use borrow.Author.Needs.{needs}
 use Rattle.walking.proofs.put_line.Statement.{statement}
 use Rattle.walking.proofs.put_line.Tie as tie
@@ -20,6 +20,13 @@ Inv-loop numbers out₀ at n end₀ i₀ out end i =
 
 abbrev μ-loop : tie.MeasureT-loop
 μ-loop numbers out₀ at n end₀ i₀ out end i = n - i
+
+-- one number more is put, and takes 21 octets at most
+more-put : (i n : ℕ) → i < n → i + 1 ≤ n
+more-put i n h = omega arith
+
+room-then : (at end next i : ℕ) → end ≤ at + 21 * i → next ≤ end + 21 → next ≤ at + 21 * (i + 1)
+room-then at end next i h k = omega arith
 
 loop-holds : tie.Need-loop-holds Inv-loop μ-loop
 loop-holds c = (refl, omega arith, refl, omega arith, refl, refl)
@@ -53,10 +60,15 @@ loop-again c =
     let ns = c .before .before .before .before .before .before .before .before .before .before .args .numbers .now in
     let l = c .before .before .before .before .before .before .before .loop in
     let q = c .before .before .put-number in
-    let e = line-more ns (l .i) (omega arith) in
-    let w = c .before .before .before .before .before .after-number .ensures in
-    let t = left-to-put (line (drop (l .i + 1) ns)) (q .ensures) in
-    (refl, omega arith, q .kept .1 .1 .0 ∙ l .inv .2, omega arith, cc (t .0, e, w, l .inv .4), cc (t .1, e, w, l .inv .5))
+    let w = c .before .before .before .before .before .after-number in
+    let h : l .i < length ns = c .before .before .before .before .before .before .loop-test .taken in (
+      refl,
+      more-put (l .i) (length ns) h,
+      q .kept .1 .1 .0 ∙ l .inv .2,
+      room-then (c .before .before .before .before .before .before .before .before .before .before .args .at) (l .end) (q .result) (l .i) (l .inv .3) (q .ensures .within),
+      ends-then ns (l .out) (q .last .1 .1 .0) (l .i) (w .result) (l .end) (q .result) h (w .ensures) (q .ensures) _ (l .inv .4),
+      holds-then ns (l .out) (q .last .1 .1 .0) (l .i) (w .result) (l .end) (q .result) h (w .ensures) (q .ensures) _ (l .inv .5),
+    )
 
 same-length : tie.Need-same-length Inv-loop μ-loop
 same-length c = c .before .loop .inv .2

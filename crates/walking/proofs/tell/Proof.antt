@@ -1,6 +1,9 @@
-use mathlib.Core.Path.{refl}
+use Prim.Native.Nat.{ℕ}
+use mathlib.Core.Path.{refl, ap₂, _∙_}
+use mathlib.Core.List.{[], _∷_}
 use native.Mathlib.Omega.{arith}
 use lib.Dec.{eqb}
+use lib.ListN.{length, take}
 use Rattle.walking.proofs.OutcomeLaws.{told-first, few}
 use borrow.Author.Needs.{needs}
 use Rattle.walking.proofs.tell.Statement.{statement}
@@ -20,7 +23,7 @@ returns c =
     let a = c .before .before .before .args in
     let t = told-first (a .number) (a .kind) (a .refusal) (a .frame .now) (a .sixth) (a .seventh) (a .done) (omega arith) in
     let n = c .before .pick .ensures in
-    (cc (t, n, c .stamp-of .ensures), (rw n (few (eqb (a .refusal) 0) (a .done) (omega arith)), refl))
+    (ap₂ (λ (k s : ℕ). take k (a .number ∷ a .kind ∷ a .refusal ∷ length (a .frame .now) ∷ s ∷ a .sixth ∷ a .seventh ∷ [])) n (c .stamp-of .ensures) ∙ t, (rw n (few (eqb (a .refusal) 0) (a .done) (omega arith)), refl))
 
 pub tell-spec : {M : Type 1} → statement M
 tell-spec = tie.close (tie.spec pick-requires stamp-of-requires cast-t15 returns)
