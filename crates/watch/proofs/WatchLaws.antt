@@ -1,9 +1,8 @@
--- The order and the row of an event, put together from what is found on the way.
+-- The row of an event, put together from its columns.
 use Prim.Native.Nat.{ℕ, _+_, _-_}
 use mathlib.Core.Path.{_≡_, refl, sym}
 use lib.Dec.{leb}
 use mathlib.Core.Bool.{Bool, cond}
-use Rattle.refusals.specs.Refusals.{_orElse_}
 use Rattle.watch.specs.declared.Originating.{Originating}
 use Rattle.watch.specs.declared.Terminating.{Terminating}
 use Rattle.watch.specs.declared.Coming.{Coming}
@@ -16,12 +15,6 @@ use Rattle.watch.specs.declared.Event.{Event}
 use Rattle.watch.specs.Table.{table, sendsBoth, conditioned, change}
 use Rattle.watch.specs.Watch.{keepAlive, brought, sentAfter, judged, eventRow}
 use Rattle.watch.proofs.TableLaws.{row-left}
-
--- the order's number, of numbers that were found beforehand
-pub order-is : (a b c d e r21 r14 r18 kept came n₁ n₂ n₃ n : ℕ) → r21 ≡ a → r14 ≡ b → r18 ≡ c → kept ≡ d → came ≡ e
-    → n₁ ≡ kept orElse came → n₂ ≡ r18 orElse n₁ → n₃ ≡ r14 orElse n₂ → n ≡ r21 orElse n₃
-    → n ≡ a orElse b orElse c orElse d orElse e
-order-is a b c d e r21 r14 r18 kept came n₁ n₂ n₃ n p q r s t h₁ h₂ h₃ h = rw (h, h₃, h₂, h₁, p, q, r, s, t) refl
 
 -- a refresh is due after this was sent
 abbrev pub dueAfter : Watch → ℕ → Sends → Bool

@@ -1,17 +1,8 @@
-use Prim.Native.Nat.{ℕ}
-use mathlib.Core.Path.{_≡_, ap₂, _∙_}
-use mathlib.Core.Bool.{false}
-use mathlib.Core.List.{List}
+use mathlib.Core.Path.{ap₂, _∙_}
 use Rattle.refusals.specs.Refusals.{_orElse_}
-use Rattle.frame.specs.Orders.{refusal19, linkRefusal, layoutRefusal, signalRefusal}
+use Rattle.frame.specs.Orders.{signalRefusal}
 use Rattle.frame.proofs.signal_refusal.Statement.{statement}
 use Rattle.frame.proofs.signal_refusal.Tie as tie
-
--- the order, of numbers that were judged one by one
-judged : (f : List ℕ) (link r19 laid m n : ℕ) → link ≡ linkRefusal f → r19 ≡ refusal19 false f → laid ≡ layoutRefusal f → m ≡ r19 orElse laid
-    → n ≡ link orElse m → n ≡ signalRefusal f
-unfolding signalRefusal
-judged f link r19 laid m n p q r s e = e ∙ ap₂ _orElse_ p (s ∙ ap₂ _orElse_ q r)
 
 layout-refusal-requires : tie.Need-layout-refusal-requires
 layout-refusal-requires c κs = tt
@@ -29,12 +20,13 @@ or-else-requires-2 : tie.Need-or-else-requires-2
 or-else-requires-2 c κs = tt
 
 returns : tie.Need-returns
+unfolding signalRefusal
 returns c =
     let m = c .before .or-else in
     let r19 = c .before .before .refusal-19 in
     let link = c .before .before .before .link-refusal in
     let laid = c .before .before .before .before .layout-refusal in
-    judged (c .before .before .before .before .before .before .args .frame .now) (link .result) (r19 .result) (laid .result) (m .result) (c .or-else2 .result) (link .ensures) (r19 .ensures) (laid .ensures) (m .ensures) (c .or-else2 .ensures)
+    c .or-else2 .ensures ∙ ap₂ _orElse_ (link .ensures) (m .ensures ∙ ap₂ _orElse_ (r19 .ensures) (laid .ensures))
 
 pub signal-refusal-spec : {M : Type 1} → statement M
 signal-refusal-spec =
