@@ -1,8 +1,9 @@
 -- What is known of slices that are long enough, and what each lent slice holds where this form refuses, and where it does not.
 use Prim.Native.Nat.{ℕ, _≤_}
-use mathlib.Core.Path.{_≡_, refl, sym, ap, _∙_}
+use mathlib.Core.Path.{_≡_, refl, sym, ap, subst, _∙_}
 use mathlib.Core.Bool.{Bool, true, false, cond, not, _||_}
 use mathlib.Core.List.{List, [], _∷_}
+use native.Mathlib.Nat.{le-refl}
 use native.Mathlib.Omega.{arith}
 use lib.Dec.{ltb, eqb}
 use lib.ListN.{length, take, set, length-take}
@@ -25,6 +26,13 @@ sized k n e z = eqb-true n k (not-false (eqb n k) (refuse-zero _ 13 (sym e ∙ z
 
 pub six : (n : ℕ) {r : ℕ} → r ≡ recordRefusal n → r ≡ 0 → n ≡ 6
 six n e z = sized 6 n e z
+
+pub six-room : (n : ℕ) {r : ℕ} → r ≡ recordRefusal n → r ≡ 0 → 6 ≤ n
+six-room n e z = subst (λ (k : ℕ). 6 ≤ k) (sym (six n e z)) (le-refl 6)
+
+-- a count that is known, of values that fit
+pub within : {n k l : ℕ} → n ≡ k → n ≤ l → k ≤ l
+within {l = l} e h = subst (λ (x : ℕ). x ≤ l) e h
 
 -- an order whose parts are known
 pub both : {r a b x y : ℕ} → r ≡ a orElse b → a ≡ x → b ≡ y → r ≡ x orElse y

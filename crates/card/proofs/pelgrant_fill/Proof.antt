@@ -1,9 +1,11 @@
+use Prim.Native.Nat.{ℕ}
+use mathlib.Core.List.{List, [], _∷_}
 use mathlib.Core.Path.{sym, ap, _∙_}
-use native.Mathlib.Omega.{arith}
+use native.Mathlib.Nat.{le-trans}
 use lib.ListN.{length}
 use borrow.Author.Needs.{needs}
 use Rattle.card.specs.Card.{put}
-use Rattle.card.proofs.CardLaws.{roomy-two, fill-fits, left-alone, answered}
+use Rattle.card.proofs.CardLaws.{roomy-two, within, fill-fits, left-alone, answered}
 use Rattle.card.proofs.pelgrant_fill.Statement.{statement}
 use Rattle.card.proofs.pelgrant_fill.Tie as tie
 
@@ -28,7 +30,9 @@ put-requires c κs = roomy-two (length (c .before .before .before .before .befor
 copy-requires : tie.Need-copy-requires
 copy-requires c κs =
     let a = c .before .before .before .before .before .before .before .before .before .before .before .before .before .args in
-    omega (arith, ap length (c .before .before .before .before .before .before .fill .ensures), fill-fits (a .last .now) (a .noise .now) (a .mlast), roomy-two (length (c .before .before .before .before .before .before .before .before .before .before .before .before .before .args .answer .now)) 1 (length (c .before .before .before .before .before .before .before .before .before .before .before .before .before .args .out .now)) 128 (c .before .before .before .before .before .before .before .before .short-two .ensures) (c .before .before .before .before .before .before .before .if1 .left) .1)
+    within (sym (ap length (c .before .before .before .before .before .before .fill .ensures)))
+    (le-trans (fill-fits (a .last .now) (a .noise .now) (a .mlast))
+    (roomy-two (length (a .answer .now)) 1 (length (a .out .now)) 128 (c .before .before .before .before .before .before .before .before .short-two .ensures) (c .before .before .before .before .before .before .before .if1 .left) .1))
 
 same-length : tie.Need-same-length
 same-length c = search needs
@@ -39,12 +43,13 @@ same-length-2 c = search needs
 returns-2 : tie.Need-returns-2
 unfolding put
 returns-2 c =
+    let s = c .before .before .before .before .before .before .before .before .before .before .before .before .before .before .before .before .args in
     let e = c .before .before .before .before .before .before .before .before .before .before .before .short-two .ensures in
     let z = c .before .before .before .before .before .before .before .before .before .before .if1 .left in
     let a = c .before .before .before .before .before .before .before .before .before .fill .ensures in
     let p = c .before .before .before .before .before .before .put .ensures in
     let h = c .before .before .copy .ensures in
-    (sym (sym e ∙ z), (answered _ _ _ _ e z _ (cc), answered _ _ _ _ e z _ (cc)))
+    (sym (sym e ∙ z), (answered _ _ _ _ e z _ (p ∙ ap (λ (l : List ℕ). put (length l ∷ []) (s .answer .now)) a), answered _ _ _ _ e z _ (h ∙ ap (λ (l : List ℕ). put l (s .out .now)) a)))
 
 pub pelgrant-fill-spec : {M : Type 1} → statement M
 pelgrant-fill-spec =

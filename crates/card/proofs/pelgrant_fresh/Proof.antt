@@ -1,8 +1,10 @@
+use Prim.Native.Nat.{ℕ}
+use mathlib.Core.List.{List}
 use mathlib.Core.Path.{sym, ap, _∙_}
-use native.Mathlib.Omega.{arith}
 use lib.ListN.{length}
 use borrow.Author.Needs.{needs}
-use Rattle.card.proofs.CardLaws.{six, left-alone, answered}
+use Rattle.card.specs.Card.{put, recordNumbers}
+use Rattle.card.proofs.CardLaws.{six-room, within, left-alone, answered}
 use Rattle.card.proofs.pelgrant_fresh.Statement.{statement}
 use Rattle.card.proofs.pelgrant_fresh.Tie as tie
 
@@ -24,7 +26,7 @@ slice-aggregate-put : tie.Need-slice-aggregate-put
 slice-aggregate-put c = search needs
 
 put-requires : tie.Need-put-requires
-put-requires c κs = omega (arith, six (length (c .before .before .before .before .before .before .before .args .kept .now)) (c .before .before .before .before .before .record-refusal .ensures) (c .before .before .before .before .if1 .left), ap length (c .before .before .record-numbers .ensures))
+put-requires c κs = within (sym (ap length (c .before .before .record-numbers .ensures))) (six-room (length (c .before .before .before .before .before .before .before .args .kept .now)) (c .before .before .before .before .before .record-refusal .ensures) (c .before .before .before .before .if1 .left))
 
 same-length : tie.Need-same-length
 same-length c = search needs
@@ -36,7 +38,7 @@ returns-2 c =
     let f = c .before .before .before .before .before .before .fresh .ensures in
     let n = c .before .before .before .before .before .record-numbers .ensures in
     let p = c .before .before .put .ensures in
-    (sym (sym e ∙ z), answered _ _ _ _ e z _ (cc))
+    (sym (sym e ∙ z), answered _ _ _ _ e z _ (p ∙ ap (λ (l : List ℕ). put l (c .before .before .before .before .before .before .before .before .before .before .args .kept .now)) (n ∙ ap recordNumbers f)))
 
 pub pelgrant-fresh-spec : {M : Type 1} → statement M
 pelgrant-fresh-spec =

@@ -1,3 +1,4 @@
+use Prim.Native.Nat.{ℕ}
 use mathlib.Core.List.{[], _∷_}
 use mathlib.Core.Path.{_≡_, ap, _∙_}
 use lib.ListN.{length, length-set}
@@ -5,7 +6,7 @@ use lib.Ieee.{Float}
 use borrow.Author.Needs.{needs}
 use Rattle.refusals.proofs.RefusalLaws.{orElse-take, orElse-pass}
 use Rattle.coding.specs.Noise.{Paper, noiseOf}
-use Rattle.card.specs.Card.{put}
+use Rattle.card.specs.Card.{put, flag}
 use Rattle.card.proofs.CardLaws.{roomy-two, left-alone, answered, stored}
 use Rattle.card.proofs.pelgrant_noise_level.Statement.{statement}
 use Rattle.card.proofs.pelgrant_noise_level.Tie as tie
@@ -55,7 +56,7 @@ returns-2 c =
     let p = c .before .before .put .ensures in (
       orElse-pass _ _ _ _ e z (n .ensures .0 ∙ ap (λ (r : Paper). r .number) w),
       (
-        answered _ _ _ _ e z _ (cc),
+        answered _ _ _ _ e z _ (p ∙ ap (λ (k : ℕ). put (k ∷ []) (c .before .before .before .before .before .before .before .before .before .before .before .before .args .answer .now)) (f ∙ ap flag i)),
         answered _ _ _ _ e z _ (stored (n .result .level) (c .before .before .before .before .before .before .before .before .before .before .before .before .args .level .now) (roomy-two (length (c .before .before .before .before .before .before .before .before .before .before .before .before .args .answer .now)) 1 (length (c .before .before .before .before .before .before .before .before .before .before .before .before .args .level .now)) 1 e z .1) ∙ ap (λ (y : Float). put (y ∷ []) (c .before .before .before .before .before .before .before .before .before .before .before .before .args .level .now)) x),
       ),
     )

@@ -1,9 +1,10 @@
-use native.Mathlib.Omega.{arith}
+use mathlib.Core.Path.{ap, _∙_}
 use lib.ListN.{length}
 use borrow.Author.Needs.{needs}
 use Rattle.refusals.proofs.RefusalLaws.{orElse-take, orElse-pass}
-use Rattle.card.specs.Card.{put}
-use Rattle.card.proofs.CardLaws.{roomy-two, left-alone, answered}
+use Rattle.endpoint.specs.declared.Heard.{Heard}
+use Rattle.card.specs.Card.{put, heardNumbers}
+use Rattle.card.proofs.CardLaws.{roomy-two, within, left-alone, answered}
 use Rattle.card.proofs.pelgrant_read.Statement.{statement}
 use Rattle.card.proofs.pelgrant_read.Tie as tie
 
@@ -35,7 +36,7 @@ slice-aggregate-copy : tie.Need-slice-aggregate-copy
 slice-aggregate-copy c = search needs
 
 copy-requires : tie.Need-copy-requires
-copy-requires c κs = omega (arith, slice-aggregate-copy (c .before), roomy-two (length (c .before .before .before .before .before .before .before .before .before .before .before .before .before .before .before .before .args .answer .now)) 2 (length (c .before .before .before .before .before .before .before .before .before .before .before .before .before .before .before .before .args .samples .now)) 128 (c .before .before .before .before .before .before .before .before .before .before .before .before .short-two .ensures) (c .before .before .before .before .before .before .before .before .before .before .before .if1 .left) .1)
+copy-requires c κs = within (slice-aggregate-copy (c .before)) (roomy-two (length (c .before .before .before .before .before .before .before .before .before .before .before .before .before .before .before .before .args .answer .now)) 2 (length (c .before .before .before .before .before .before .before .before .before .before .before .before .before .before .before .before .args .samples .now)) 128 (c .before .before .before .before .before .before .before .before .before .before .before .before .short-two .ensures) (c .before .before .before .before .before .before .before .before .before .before .before .if1 .left) .1)
 
 same-length : tie.Need-same-length
 same-length c = search needs
@@ -46,12 +47,13 @@ same-length-2 c = search needs
 returns-2 : tie.Need-returns-2
 unfolding put
 returns-2 c =
+    let s = c .before .before .before .before .before .before .before .before .before .before .before .before .before .before .before .before .before .before .before .args in
     let e = c .before .before .before .before .before .before .before .before .before .before .before .before .before .before .before .short-two .ensures in
     let z = c .before .before .before .before .before .before .before .before .before .before .before .before .before .before .if1 .left in
     let a = c .before .before .before .before .before .before .before .before .before .before .before .before .before .read .ensures in
     let p = c .before .before .before .before .before .before .before .before .put .ensures in
     let h = c .before .before .copy .ensures in
-    (orElse-pass _ _ _ _ e z (cc), (answered _ _ _ _ e z _ (cc), answered _ _ _ _ e z _ (cc)))
+    (orElse-pass _ _ _ _ e z (ap (λ (r : Heard). r .refusal) a), (answered _ _ _ _ e z _ (p ∙ ap (λ (r : Heard). put (heardNumbers r) (s .answer .now)) a), answered _ _ _ _ e z _ (h ∙ ap (λ (r : Heard). put (r .samples) (s .samples .now)) a)))
 
 pub pelgrant-read-spec : {M : Type 1} → statement M
 pelgrant-read-spec =

@@ -1,5 +1,8 @@
+use mathlib.Core.Path.{ap, _∙_}
 use borrow.Author.Needs.{needs}
 use Rattle.refusals.proofs.RefusalLaws.{orElse-take, orElse-pass}
+use Rattle.endpoint.specs.declared.SignalHeard.{SignalHeard}
+use Rattle.card.specs.Card.{put, signalNumbers}
 use Rattle.card.proofs.CardLaws.{roomy, left-alone, answered}
 use Rattle.card.proofs.pelgrant_signal_read.Statement.{statement}
 use Rattle.card.proofs.pelgrant_signal_read.Tie as tie
@@ -40,7 +43,7 @@ returns-2 c =
     let z = c .before .before .before .before .before .before .before .before .before .if1 .left in
     let a = c .before .before .before .before .before .before .before .before .signal .ensures in
     let p = c .before .before .put .ensures in
-    (orElse-pass _ _ _ _ e z (cc), answered _ _ _ _ e z _ (cc))
+    (orElse-pass _ _ _ _ e z (ap (λ (r : SignalHeard). r .refusal) a), answered _ _ _ _ e z _ (p ∙ ap (λ (r : SignalHeard). put (signalNumbers r) (c .before .before .before .before .before .before .before .before .before .before .before .before .before .args .answer .now)) a))
 
 pub pelgrant-signal-read-spec : {M : Type 1} → statement M
 pelgrant-signal-read-spec =

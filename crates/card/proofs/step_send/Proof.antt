@@ -1,4 +1,5 @@
-use mathlib.Core.Path.{refl}
+use Prim.Native.Nat.{ℕ}
+use mathlib.Core.Path.{refl, ap}
 use borrow.Author.Needs.{needs}
 use Rattle.refusals.proofs.RefusalLaws.{refused-is, done-is}
 use Rattle.card.specs.Card.{stepAnswer, stepBuffer, stepSseq}
@@ -13,7 +14,7 @@ unfolding stepAnswer stepBuffer stepSseq
 returns c =
     let e = c .before .refuse .ensures in
     let t = c .if1 .taken in
-    (refused-is _ _ _ _ _ e t (cc), (refused-is _ _ _ _ _ e t refl, refused-is _ _ _ _ _ e t refl))
+    (refused-is _ _ _ _ _ e t (ap (λ (k : ℕ). record { refusal = k; length = 0 }) e), (refused-is _ _ _ _ _ e t refl, refused-is _ _ _ _ _ e t refl))
 
 step-numbered-requires : tie.Need-step-numbered-requires
 step-numbered-requires c κs = search needs
