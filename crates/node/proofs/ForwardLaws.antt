@@ -1,6 +1,6 @@
 -- What is known of a call that a node does not refuse, both ways, and the frame as `send_on` puts it together.
 use Prim.Native.Nat.{ℕ, _+_, _-_, _*_, _^_, _≤_, _<_}
-use mathlib.Core.Path.{_≡_, refl, ap, sym, _∙_}
+use mathlib.Core.Path.{_≡_, refl, ap, ap₂, sym, _∙_}
 use mathlib.Core.Bool.{false}
 use mathlib.Core.List.{List, _++_}
 use native.Mathlib.Omega.{arith}
@@ -8,7 +8,7 @@ use lib.ListN.{length, take, drop, length-append}
 use borrow.Author.Tests.{ltb-false, le-ltb}
 use borrow.Rule.Slice.PartMut.{putMid, midOf}
 use Rattle.octets.proofs.PartLaws.{grown}
-use Rattle.refusals.specs.Refusals.{_orElse_, refuse, addressBad}
+use Rattle.refusals.specs.Refusals.{_orElse_, refuse, addressBad, refusal10, refusal15, refusal16}
 use Rattle.refusals.proofs.RefusalLaws.{orElse-zero, refuse-zero, in-range}
 use Rattle.fcs.specs.Fcs.{fcsOctets}
 use Rattle.frame.specs.Orders.{takenRefusal}
@@ -40,6 +40,14 @@ module _ (level wait addr : ℕ) (f : List ℕ) (room : ℕ) where
   pub not-refused : Forwarded level wait addr f room → forwardRefusal level wait addr f room ≡ 0
   unfolding forwardRefusal
   not-refused t = simp (le-ltb _ _ (t .low), t .inside, t .legal, le-ltb _ _ (t .roomy))
+
+-- the order, of numbers that were judged one by one
+pub forward-judged : (level wait addr : ℕ) (f : List ℕ) (room size r16 legal m r10 r15 l r : ℕ) → size ≡ length (onward level wait addr f) → r16 ≡ refusal16 room size
+    → legal ≡ takenRefusal f → m ≡ legal orElse r16 → r10 ≡ refusal10 level → r15 ≡ refusal15 addr → l ≡ r15 orElse m → r ≡ r10 orElse l
+    → r ≡ forwardRefusal level wait addr f room
+unfolding forwardRefusal
+forward-judged level wait addr f room size r16 legal m r10 r15 l r p q s t u v w e =
+    e ∙ ap₂ _orElse_ u (w ∙ ap₂ _orElse_ v (t ∙ ap₂ _orElse_ s (q ∙ ap (refusal16 room) p)))
 
 pub sendable : (n level wait addr : ℕ) (f out : List ℕ) → forwardRefusal level wait addr f (length out) ≡ 0 → n ≡ length (onward level wait addr f)
     → wait < 2 ^ 32 → Sendable n level wait addr f out

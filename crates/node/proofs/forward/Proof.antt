@@ -12,7 +12,7 @@ use Rattle.node.proofs.forward.Statement.{statement}
 use Rattle.node.proofs.forward.Tie as tie
 
 forward-refusal-requires : tie.Need-forward-refusal-requires
-forward-refusal-requires c κs = search needs
+forward-refusal-requires c κs = tt
 
 returns : tie.Need-returns
 unfolding forwardAnswer forwardBuffer sentAnswer sentBuffer
@@ -20,13 +20,13 @@ returns c =
     let a = c .before .before .before .before .args in
     let k = c .before .forward-refusal in
     let e = k .ensures (waitOf (a .from) (a .to)) in
-    (refused-is _ (k .result) _ _ _ e (c .if1 .taken) (cc), refused-is _ (k .result) _ _ _ e (c .if1 .taken) refl)
+    (refused-is _ (k .result) _ _ _ e (c .if1 .taken) (ap (λ (r : ℕ). record { refusal = r; length = 0 }) e), refused-is _ (k .result) _ _ _ e (c .if1 .taken) refl)
 
 wait-of-requires : tie.Need-wait-of-requires
-wait-of-requires c κs = search needs
+wait-of-requires c κs = tt
 
 onward-length-requires : tie.Need-onward-length-requires
-onward-length-requires c κs = search needs
+onward-length-requires c κs = tt
 
 send-on-requires : tie.Need-send-on-requires
 send-on-requires c κs =
@@ -54,7 +54,7 @@ returns-2 c =
     let v = w .ensures .0 in
     let sent = s .ensures ∙ ap (λ (t : ℕ). onward (a .level) t (a .address) f ++ drop (n .result) (a .out .now)) v
     ∙ ap (λ (i : ℕ). onward (a .level) (waitOf (a .from) (a .to)) (a .address) f ++ drop i (a .out .now)) m in
-    (done-is _ (k .result) _ _ _ e z (cc), done-is _ (k .result) _ _ _ e z sent)
+    (done-is _ (k .result) _ _ _ e z (ap (λ (i : ℕ). record { refusal = 0; length = i }) m), done-is _ (k .result) _ _ _ e z sent)
 
 pub forward-spec : {M : Type 1} → statement M
 forward-spec =

@@ -1,12 +1,24 @@
-use mathlib.Core.Path.{_∙_}
-use mathlib.Core.List.{[], _∷_}
+use Prim.Native.Nat.{ℕ, _+_, _-_, _*_, _/_, _%_}
+use mathlib.Core.Path.{_≡_, ap, ap₂, _∙_}
+use mathlib.Core.List.{List, [], _∷_, _++_}
 use native.Mathlib.Omega.{arith}
-use lib.ListN.{getD, length-set}
+use lib.ListN.{getD, drop, length-set}
 use lib.Seq.{sets-eq}
-use Rattle.onward.specs.Onward.{onwardHead}
+use Rattle.octets.specs.Octets.{octet}
+use Rattle.frame.specs.Fields.{stamp}
+use Rattle.onward.specs.Onward.{dropped, stampAfter, onwardHead}
 use borrow.Author.Needs.{needs}
 use Rattle.onward.proofs.put_head.Statement.{statement}
 use Rattle.onward.proofs.put_head.Tie as tie
+
+-- the head, of the four octets that are new
+head-is : (level wait addr : ℕ) (f : List ℕ) (a b e s : ℕ) → a ≡ addr / 128 * 4 + octet 1 f % 4 → b ≡ addr % 128 * 2 + octet 2 f % 2
+    → e ≡ octet 5 f - dropped level f → s ≡ stampAfter (stamp f) wait
+    → a ∷ b ∷ octet 3 f ∷ octet 4 f ∷ e ∷ s ∷ octet 7 f ∷ octet 8 f ∷ [] ≡ onwardHead level wait addr f
+unfolding onwardHead
+head-is level wait addr f a b e s p q r t =
+    ap₂ (λ (x y : ℕ). x ∷ y ∷ octet 3 f ∷ octet 4 f ∷ e ∷ s ∷ octet 7 f ∷ octet 8 f ∷ []) p q
+    ∙ ap₂ (λ (x y : ℕ). (addr / 128 * 4 + octet 1 f % 4) ∷ (addr % 128 * 2 + octet 2 f % 2) ∷ octet 3 f ∷ octet 4 f ∷ x ∷ y ∷ octet 7 f ∷ octet 8 f ∷ []) r t
 
 shared-slice-read-octet-1 : tie.Need-shared-slice-read-octet-1
 shared-slice-read-octet-1 c = search needs
@@ -69,7 +81,6 @@ same-length : tie.Need-same-length
 same-length c = simp length-set
 
 returns : tie.Need-returns
-unfolding onwardHead
 returns c =
     let a = c .before .before .before .before .before .before .before .before .before .before .before .before .before .args in
     let f = a .frame .now in
@@ -78,7 +89,7 @@ returns c =
     let k5 = c .before .before .before .before .before .before .octet-5 in
     let k6 = c .before .before .before .before .stamp-after in
     sets-eq (k1 .result ∷ k2 .result ∷ getD f 2 0 ∷ getD f 3 0 ∷ k5 .result ∷ k6 .result ∷ getD f 6 0 ∷ getD f 7 0 ∷ []) (a .out .now) 0 (omega arith)
-    ∙ cc
+    ∙ ap (λ (h : List ℕ). h ++ drop 8 (a .out .now)) (head-is (a .level) (a .wait) (a .address) f (k1 .result) (k2 .result) (k5 .result) (k6 .result) (k1 .ensures) (k2 .ensures) (k5 .ensures) (k6 .ensures))
 
 pub put-head-spec : {M : Type 1} → statement M
 put-head-spec =
