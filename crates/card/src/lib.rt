@@ -635,9 +635,12 @@ fn event_numbered(event: u8, bits: u8, flag: u8) -> Event
         return Event::Passing;
     }
     if event == 1 {
-        return Event::Reading(bits, flag != 0);
+        return Event::Reading {
+            bits: bits,
+            alarm: flag != 0,
+        };
     }
-    Event::Frame(flag)
+    Event::Frame { na: flag }
 }
 
 // What an event answers, and the watch after it, as numbers.

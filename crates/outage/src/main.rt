@@ -126,12 +126,21 @@ fn carried(clock: u64, told: Watched) -> Event {
 // What is read at the west: A set from 5 s on, B with it after a facility alarm that lasts from 104 s to 117 s.
 fn read_at_west(clock: u64) -> Event {
     if clock < 5000 {
-        return Event::Reading(0, false);
+        return Event::Reading {
+            bits: 0,
+            alarm: false,
+        };
     }
     if clock < 104000 {
-        return Event::Reading(8, false);
+        return Event::Reading {
+            bits: 8,
+            alarm: false,
+        };
     }
-    Event::Reading(12, clock < 117000)
+    Event::Reading {
+        bits: 12,
+        alarm: clock < 117000,
+    }
 }
 
 fn second(line: Line, clock: u64) -> Line {

@@ -11,5 +11,5 @@ pub fn event_of(heard: SignalHeard) -> Event
     if heard.refusal != 0 {
         return Event::Passing;
     }
-    Event::Frame(heard.na)
+    Event::Frame { na: heard.na }
 }

@@ -41,8 +41,8 @@ pub struct Watch {
 // What a host tells of: time passing, the bits and the facility alarm as read, the N/A bit of a frame taken.
 pub enum Event {
     Passing,
-    Reading(u8, bool),
-    Frame(u8),
+    Reading { bits: u8, alarm: bool },
+    Frame { na: u8 },
 }
 
 pub enum Sends {
@@ -186,8 +186,8 @@ fn brought_12(event: Event) -> u8
 {
     match event {
         Event::Passing => 0,
-        Event::Reading(bits, _) => refusal_12(bits, 0),
-        Event::Frame(na) => refusal_12(0, na),
+        Event::Reading { bits, alarm: _ } => refusal_12(bits, 0),
+        Event::Frame { na } => refusal_12(0, na),
     }
 }
 
@@ -253,8 +253,8 @@ fn brought(w: Watch, event: Event) -> Coming
 {
     match event {
         Event::Passing => Coming::NoChange,
-        Event::Reading(bits, alarm) => reading(w.states, w.bits, bits, alarm),
-        Event::Frame(na) => {
+        Event::Reading { bits, alarm } => reading(w.states, w.bits, bits, alarm),
+        Event::Frame { na } => {
             if na == 0 {
                 return Coming::NormalFrame;
             }
@@ -322,13 +322,13 @@ fn bits_after(kept: u8, event: Event) -> u8
 {
     match event {
         Event::Passing => kept,
-        Event::Reading(bits, alarm) => {
+        Event::Reading { bits, alarm } => {
             if alarm {
                 return kept;
             }
             bits
         }
-        Event::Frame(_) => kept,
+        Event::Frame { na: _ } => kept,
     }
 }
 
@@ -337,8 +337,8 @@ fn taken_after(event: Event, clock: u64, last: u64) -> u64
 {
     match event {
         Event::Passing => last,
-        Event::Reading(_, _) => last,
-        Event::Frame(_) => clock,
+        Event::Reading { bits: _, alarm: _ } => last,
+        Event::Frame { na: _ } => clock,
     }
 }
 
