@@ -1,0 +1,9 @@
+use mathlib.Core.Path.{refl}
+use Rattle.endpoint.proofs.stamp_late.Statement.{statement}
+use Rattle.endpoint.proofs.stamp_late.Tie as tie
+
+returns : tie.Need-returns
+returns c = refl
+
+pub stamp-late-spec : {M : Type 1} → statement M
+stamp-late-spec = tie.close (tie.spec returns)
