@@ -21,8 +21,7 @@ use Rattle.watch.specs.declared.Watched.{Watched}
 use Rattle.watch.specs.declared.Event.{Event}
 use Rattle.watch.specs.declared.Event.the-variants.{Passing, Reading, Frame}
 use Rattle.watch.specs.Table.{table, sendsBoth, conditioned, change}
-use Rattle.watch.specs.Watch.{clockLimit, inUse, brought, sentAfter, standing, judged, eventRow, naOf, ifSent, bitsAfter, refusal21, refusal18, brought12, eventRefusal, startRefusal, takenAfter, freshWatch, only, answered, eventAnswer}
-use Rattle.watch.specs.Events.{isFrame, isSent}
+use Rattle.watch.specs.Watch.{clockLimit, inUse, brought, isFrame, isSent, sentAfter, standing, judged, eventRow, naOf, ifSent, bitsAfter, refusal21, refusal18, brought12, eventRefusal, startRefusal, takenAfter, freshWatch, only, answered, eventAnswer}
 use Rattle.watch.proofs.TableLaws.{row-left, run-out}
 use Rattle.watch.proofs.WatchLaws.{dueAfter}
 

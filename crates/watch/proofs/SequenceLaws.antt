@@ -1,7 +1,7 @@
 -- What an operator lives by, over any sequence of events upon one watch.
 use Prim.Native.Nat.{ℕ, _+_, _≤_, _<_}
 use mathlib.Core.Path.{_≡_, refl, sym, ap, subst, _∙_}
-use mathlib.Core.Bool.{Bool, true, false, true≢false, cond, _||_, _&&_}
+use mathlib.Core.Bool.{Bool, true, false, true≢false, _||_, _&&_}
 use mathlib.Core.List.{List, [], _∷_}
 use native.Mathlib.Omega.{arith}
 use lib.Dec.{eqb}
@@ -17,8 +17,8 @@ use Rattle.watch.specs.declared.Watch.{Watch}
 use Rattle.watch.specs.declared.Watched.{Watched}
 use Rattle.watch.specs.declared.Event.{Event}
 use Rattle.watch.specs.Table.{conditioned, change}
-use Rattle.watch.specs.Watch.{refreshOffered, statesOffered, keepAliveOffered, refusal18, brought12, takenAfter, sentAfter, eventRow, startRefusal, freshWatch, answered, eventAnswer}
-use Rattle.watch.specs.Events.{Told, answerTo, Runs, watchAfter, answers, isFrame, lastFrame, fits, onAfter, InTurn, isSent, sentAt, lastSent, Silent, EveryMs, SentWithin}
+use Rattle.watch.specs.Watch.{refreshOffered, statesOffered, keepAliveOffered, refusal18, brought12, isFrame, takenAfter, isSent, sentAfter, eventRow, startRefusal, freshWatch, answered, eventAnswer}
+use Rattle.watch.specs.Events.{Told, answerTo, Runs, watchAfter, answers, lastFrame, fits, onAfter, InTurn, sentAt, lastSent, Silent, EveryMs, SentWithin}
 use Rattle.watch.proofs.EventLaws.{by-answer, answer-taken, answer-number, left-change, ran-out, due-sent, none-due, Sound, accepted, sound-order, start-sound, sound-after}
 
 -- the outcomes of any sequence of calls are the fold's
@@ -155,16 +155,11 @@ none-silent w (x ∷ xs) k =
     (one .0, one .1, none-silent (answerTo w x .after) xs (same-states w x ∙ k))
 
 -- the clock kept is that of the last frame sent
-sent-is : (s : Sends) (clock last : ℕ) → sentAfter s clock last ≡ cond (isSent s) clock last
-sent-is Nothing clock last = refl
-sent-is Transition clock last = refl
-sent-is Refresh clock last = refl
-
 sent-kept : (w : Watch) (x : Told) → answerTo w x .after .lastsent ≡ sentAt (w .lastsent) w x
 unfolding answered
 sent-kept w x =
-    by-answer w (x .clock) (x .event) (λ a. a .after .lastsent ≡ cond (isSent (a .sends)) (x .clock) (w .lastsent))
-    (λ z h. sent-is (eventRow w (x .clock) (x .event) .sends) (x .clock) (w .lastsent))
+    by-answer w (x .clock) (x .event) (λ a. a .after .lastsent ≡ sentAfter (a .sends) (x .clock) (w .lastsent))
+    (λ z h. refl)
     (λ z h. refl)
     (λ n z. refl)
 

@@ -1,18 +1,16 @@
 -- Document 02, A1, over any sequence of events upon one watch: the watch and the answers that they leave, and what is promised of them.
 use Prim.Native.Nat.{ℕ, _+_, _≤_, _<_}
 use mathlib.Core.Path.{_≡_}
-use mathlib.Core.Bool.{Bool, true, false, not, cond}
+use mathlib.Core.Bool.{Bool, true, false, not}
 use mathlib.Core.List.{List, [], _∷_}
 use Rattle.refusals.specs.Refusals.{ifTaken}
 use Rattle.watch.specs.declared.Watch.{Watch}
 use Rattle.watch.specs.declared.Watched.{Watched}
 use Rattle.watch.specs.declared.Event.{Event}
-use Rattle.watch.specs.declared.Event.the-variants.{Passing, Reading, Frame}
-use Rattle.watch.specs.declared.Sends.{Sends}
-use Rattle.watch.specs.declared.Sends.the-variants.{Nothing, Transition, Refresh}
+use Rattle.watch.specs.declared.Sends.the-variants.{Nothing}
 use Rattle.watch.specs.declared.Conditioning.{Conditioning}
 use Rattle.watch.specs.declared.Conditioning.the-variants.{Unchanged, Begins, Ends}
-use Rattle.watch.specs.Watch.{takenAfter, eventAnswer}
+use Rattle.watch.specs.Watch.{isSent, sentAfter, takenAfter, eventAnswer}
 
 -- what a host tells of, and when
 pub record Told : Type 0 where
@@ -38,25 +36,15 @@ Runs w [] (r ∷ rs) = ⊥
 Runs w (x ∷ xs) [] = ⊥
 Runs w (x ∷ xs) (r ∷ rs) = (r ≡ answerTo w x) × Runs (r .after) xs rs
 
-abbrev pub isFrame : Event → Bool
-isFrame Passing = false
-isFrame (Reading bits alarm) = false
-isFrame (Frame na) = true
-
 -- the clock of the last frame taken, or `from` if there was none; a frame whose event is refused is not taken
 unfoldable pub lastFrame : ℕ → Watch → List Told → ℕ
 lastFrame from w [] = from
 lastFrame from w (x ∷ xs) =
     lastFrame (ifTaken (answerTo w x .refusal) (takenAfter (x .event) (x .clock) from) from) (answerTo w x .after) xs
 
-abbrev pub isSent : Sends → Bool
-isSent Nothing = false
-isSent Transition = true
-isSent Refresh = true
-
 -- the clock of the last frame sent, of either kind, or `from` if there was none
 abbrev pub sentAt : ℕ → Watch → Told → ℕ
-sentAt from w x = cond (isSent (answerTo w x .sends)) (x .clock) from
+sentAt from w x = sentAfter (answerTo w x .sends) (x .clock) from
 
 unfoldable pub lastSent : ℕ → Watch → List Told → ℕ
 lastSent from w [] = from

@@ -1,6 +1,6 @@
 -- Document 02, A1: a circuit's watch. What a circuit may be provisioned with, the refusals, and what an event answers by the table.
 use Prim.Native.Nat.{ℕ, _+_, _*_, _/_, _^_}
-use mathlib.Core.Bool.{Bool, not, cond, _&&_, _||_}
+use mathlib.Core.Bool.{Bool, true, false, not, cond, _&&_, _||_}
 use lib.Dec.{ltb, leb, eqb}
 use Rattle.refusals.specs.Refusals.{_orElse_, refuse, ifTaken, refusal12}
 use Rattle.watch.specs.Table.{comes}
@@ -86,11 +86,15 @@ brought w Passing = NoChange
 brought w (Reading bits alarm) = reading (w .states) (w .bits) bits alarm
 brought w (Frame na) = cond (eqb na 0) NormalFrame AlarmFrame
 
--- the clock of the last frame sent, of either kind
+-- a frame is sent, of either kind
+abbrev pub isSent : Sends → Bool
+isSent Nothing = false
+isSent Transition = true
+isSent Refresh = true
+
+-- the clock of the last frame sent
 abbrev pub sentAfter : Sends → ℕ → ℕ → ℕ
-sentAfter Nothing clock last = last
-sentAfter Transition clock last = clock
-sentAfter Refresh clock last = clock
+sentAfter sends clock last = cond (isSent sends) clock last
 
 -- a refresh is due when the clock is TSIG_REF or more past the last frame sent, or the start
 abbrev pub refreshDue : Watch → ℕ → Sends → Coming
@@ -113,10 +117,15 @@ bitsAfter kept Passing = kept
 bitsAfter kept (Reading bits alarm) = cond alarm kept bits
 bitsAfter kept (Frame na) = kept
 
+-- the event is a frame taken
+abbrev pub isFrame : Event → Bool
+isFrame Passing = false
+isFrame (Reading bits alarm) = false
+isFrame (Frame na) = true
+
+-- the clock of the last frame taken
 abbrev pub takenAfter : Event → ℕ → ℕ → ℕ
-takenAfter Passing clock last = last
-takenAfter (Reading bits alarm) clock last = last
-takenAfter (Frame na) clock last = clock
+takenAfter e clock last = cond (isFrame e) clock last
 
 -- N/A is 1 under a facility alarm and while the own terminating end is in L_ALARM
 abbrev pub naOf : Originating → Terminating → ℕ
@@ -126,9 +135,7 @@ naOf NORMAL L-ALARM = 1
 naOf NORMAL R-ALARM = 0
 
 abbrev pub ifSent : Sends → ℕ → ℕ
-ifSent Nothing x = 0
-ifSent Transition x = x
-ifSent Refresh x = x
+ifSent sends x = cond (isSent sends) x 0
 
 -- both ends start in NORM, the bits count as 0, and the start's clock is kept
 abbrev pub freshWatch : ℕ → ℕ → ℕ → ℕ → Watch
