@@ -1,7 +1,9 @@
 -- An arrival is the decision on the frame's fields: the laws of the decision, over the octets.
 use Prim.Native.Nat.{ℕ, _+_, _≤_}
 use mathlib.Core.Path.{_≡_, sym, ap, ap₂, _∙_}
+use mathlib.Core.Bool.{cond}
 use mathlib.Core.List.{List}
+use mathlib.Core.Logic.{_⊎_, ⊎-elim}
 use native.Mathlib.Omega.{arith}
 use Rattle.frame.specs.Fields.{stamp, moreBit, sequence, noise}
 use Rattle.frame.specs.Orders.{voiceRefusal}
@@ -9,10 +11,11 @@ use Rattle.endpoint.specs.declared.Endpoint.{Endpoint}
 use Rattle.endpoint.specs.declared.Decision.{Decision}
 use Rattle.endpoint.specs.declared.Heard.{Heard}
 use Rattle.endpoint.specs.declared.Arrived.{Arrived}
-use Rattle.endpoint.specs.Play.{refusal14, dueAt, playRefusal, afterScheduled, decision}
+use Rattle.endpoint.specs.Play.{refusal14, dueAt, playRefusal, afterScheduled, afterRefused, decision}
 use Rattle.endpoint.specs.Read.{heardOf, readAnswer}
 use Rattle.endpoint.specs.Arrival.{resetOf, frameDecision, arrivalBy, arrivalOf}
-use Rattle.endpoint.proofs.PlayLaws.{decided-number, decided-scheduled, decided-ranged, decided-near, decided-ahead, decided-apart, decided-kept, decided-readable}
+use Rattle.endpoint.specs.Calls.{isReceived}
+use Rattle.endpoint.proofs.PlayLaws.{decided-number, decided-scheduled, decided-ranged, decided-near, decided-ahead, decided-apart, decided-left, decided-last, decided-readable, still, not-still, refused-stores, refused-keeps}
 
 -- an arrival put together of the decision, what is heard and the reset
 abbrev pub arrivedWith : Decision → Heard → ℕ → Arrived
@@ -54,9 +57,30 @@ module _ (e : Endpoint) (f : List ℕ) (clock : ℕ) where
   unfolding arrivalOf arrivalBy frameDecision
   arrival-apart = decided-apart e clock (voiceRefusal f) (stamp f) (sequence f) (moreBit f) (noise f)
 
-  pub arrival-kept : (arrivalOf e f clock .answer .refusal ≡ 0 → ⊥) → arrivalOf e f clock .after ≡ e
+  pub arrival-left : (arrivalOf e f clock .answer .refusal ≡ 0 → ⊥)
+      → arrivalOf e f clock .after ≡ afterRefused e (arrivalOf e f clock .answer .refusal) (moreBit f) (noise f)
   unfolding arrivalOf arrivalBy frameDecision
-  arrival-kept = decided-kept e clock (voiceRefusal f) (stamp f) (sequence f) (moreBit f) (noise f)
+  arrival-left = decided-left e clock (voiceRefusal f) (stamp f) (sequence f) (moreBit f) (noise f)
+
+  -- a call refused with 17 or 20 leaves B, RSEQ, last clock and end as they came, and the frame's own more bit and noise
+  pub arrival-stored : (arrivalOf e f clock .answer .refusal ≡ 17) ⊎ (arrivalOf e f clock .answer .refusal ≡ 20)
+      → arrivalOf e f clock .after
+      ≡ record { buildout = e .buildout; rseq = e .rseq; lastclock = e .lastclock; end = e .end; mlast = moreBit f; lastnoise = noise f }
+  arrival-stored h =
+      arrival-left (⊎-elim (λ p z. omega arith) (λ p z. omega arith) h)
+      ∙ refused-stores e (arrivalOf e f clock .answer .refusal) (moreBit f) (noise f) (still (arrivalOf e f clock .answer .refusal) h)
+
+  -- every other refusal leaves the whole record
+  pub arrival-kept : (arrivalOf e f clock .answer .refusal ≡ 0 → ⊥) → (arrivalOf e f clock .answer .refusal ≡ 17 → ⊥) → (arrivalOf e f clock .answer .refusal ≡ 20 → ⊥)
+      → arrivalOf e f clock .after ≡ e
+  arrival-kept h p q =
+      arrival-left h
+      ∙ refused-keeps e (arrivalOf e f clock .answer .refusal) (moreBit f) (noise f) (not-still (arrivalOf e f clock .answer .refusal) p q)
+
+  pub arrival-last : (arrivalOf e f clock .after .mlast ≡ cond (isReceived (arrivalOf e f clock .answer .refusal)) (moreBit f) (e .mlast))
+      × (arrivalOf e f clock .after .lastnoise ≡ cond (isReceived (arrivalOf e f clock .answer .refusal)) (noise f) (e .lastnoise))
+  unfolding arrivalOf arrivalBy frameDecision
+  arrival-last = decided-last e clock (voiceRefusal f) (stamp f) (sequence f) (moreBit f) (noise f)
 
   -- what is scheduled can be read
   pub arrival-readable : frameDecision e f clock .refusal ≡ 0 → voiceRefusal f ≡ 0

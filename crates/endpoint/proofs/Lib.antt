@@ -2,6 +2,7 @@ pub mod ArrivalLaws
 pub mod CallsLaws
 pub mod FillLaws
 pub mod IgnoredLaws
+pub mod LateLaws
 pub mod OneOutcome
 pub mod PlayLaws
 pub mod ReadLaws

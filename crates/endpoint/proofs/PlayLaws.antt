@@ -2,17 +2,19 @@
 use Prim.Native.Nat.{ℕ, zero, suc, _+_, _-_, _<_, _≤_, max}
 use mathlib.Core.Path.{_≡_, refl, sym, ap, ap₂, subst, _∙_}
 use mathlib.Core.Bool.{Bool, true, false, cond, _&&_}
+use mathlib.Core.Logic.{_⊎_, ⊎-elim}
 use native.Mathlib.Omega.{arith}
 use native.Mathlib.Nat.{le-max-left, le-max-right, le-refl, le-of-lt, max-eq-left, max-eq-right}
 use lib.Dec.{ltb, leb, eqb}
-use borrow.Author.Tests.{ltb-true, ltb-false, lt-ltb, le-ltb, leb-false}
+use borrow.Author.Tests.{ltb-true, ltb-false, lt-ltb, le-ltb, leb-false, ne-eqb}
 use Rattle.octets.specs.Sequence.{nextNumber}
 use Rattle.octets.proofs.BoolLaws.{or-false}
 use Rattle.refusals.specs.Refusals.{_orElse_, refuse}
 use Rattle.refusals.proofs.RefusalLaws.{orElse-zero, orElse-assoc, orElse-take, orElse-pass, refuse-zero, if-taken, if-refused}
 use Rattle.endpoint.specs.declared.Endpoint.{Endpoint}
 use Rattle.endpoint.specs.declared.Decision.{Decision}
-use Rattle.endpoint.specs.Play.{freshRecord, clockLimit, recordBad, refusal14, refusal18, inTurn, hold, dueAt, refusal17, refusal20, playRefusal, rseqAfter, afterScheduled, scheduledAt, refusedWith, decision}
+use Rattle.endpoint.specs.Play.{freshRecord, clockLimit, recordBad, refusal14, refusal18, inTurn, hold, dueAt, refusal17, refusal20, playRefusal, rseqAfter, afterScheduled, scheduledAt, stillStores, afterRefused, refusedWith, decision}
+use Rattle.endpoint.specs.Calls.{isReceived}
 
 -- what 14 does not refuse
 pub record InRange (e : Endpoint) : Type 0 where
@@ -76,6 +78,26 @@ rseq-after-low seq more = go (eqb more 1) where
   go : (t : Bool) → cond t (nextNumber seq) 0 ≤ 15
   go true = next-low seq
   go false = omega arith
+
+either-low : (t : Bool) {x y limit : ℕ} → x ≤ limit → y ≤ limit → cond t x y ≤ limit
+either-low true p q = p
+either-low false p q = q
+
+pub still : (n : ℕ) → (n ≡ 17) ⊎ (n ≡ 20) → stillStores n ≡ true
+still n = ⊎-elim (λ e. rw e) (λ e. rw e)
+
+pub not-still : (n : ℕ) → (n ≡ 17 → ⊥) → (n ≡ 20 → ⊥) → stillStores n ≡ false
+not-still n p q = simp (ne-eqb n 17 p, ne-eqb n 20 q)
+
+-- what a refusal leaves of the record: by 17 and 20 the frame's more bit and noise are stored, by any other number nothing is
+module _ (e : Endpoint) (n more noise : ℕ) where
+  pub refused-stores : stillStores n ≡ true
+      → afterRefused e n more noise
+      ≡ record { buildout = e .buildout; rseq = e .rseq; lastclock = e .lastclock; end = e .end; mlast = more; lastnoise = noise }
+  refused-stores h = rw h
+
+  pub refused-keeps : stillStores n ≡ false → afterRefused e n more noise ≡ e
+  refused-keeps h = rw h
 
 -- what no number of the arrival's order refuses
 pub record Scheduled (e : Endpoint) (clock given stamp seq : ℕ) : Type 0 where
@@ -193,17 +215,17 @@ module _ (e : Endpoint) (clock : ℕ) where
       decided-at due d p z q = q ∙ ap (scheduledAt e clock seq more noise) p ∙ sym (decided-scheduled z)
 
       pub decided-refused : (n : ℕ) → n ≡ playRefusal e clock given stamp seq → (n ≡ 0 → ⊥)
-          → decision e clock given stamp seq more noise ≡ refusedWith e n
+          → decision e clock given stamp seq more noise ≡ refusedWith e n more noise
       unfolding decision
       decided-refused n p h =
           if-refused (playRefusal e clock given stamp seq) _ _ (λ z. h (p ∙ z))
-          ∙ ap (refusedWith e) (sym p)
+          ∙ ap (λ (k : ℕ). refusedWith e k more noise) (sym p)
 
       -- whatever holds of a scheduled frame, and of every refusal, holds of the decision
       pub by-decision : (P : Decision → Type 0)
           → (playRefusal e clock given stamp seq ≡ 0
           → P (scheduledAt e clock seq more noise (dueAt e clock stamp seq)))
-          → ((n : ℕ) → suc n ≡ playRefusal e clock given stamp seq → P (refusedWith e (suc n)))
+          → ((n : ℕ) → suc n ≡ playRefusal e clock given stamp seq → P (refusedWith e (suc n) more noise))
           → P (decision e clock given stamp seq more noise)
       by-decision P taken refused = go (playRefusal e clock given stamp seq) refl where
         go : (n : ℕ) → playRefusal e clock given stamp seq ≡ n → P (decision e clock given stamp seq more noise)
@@ -224,7 +246,16 @@ module _ (e : Endpoint) (clock : ℕ) where
             clock-low = p .early;
             end-near = omega arith;
           }))
-          (λ k z. ranged)
+          (λ k z. let p = in-range e ranged in
+          range-in (afterRefused e (suc k) more noise)
+          (record {
+            rseq-low = p .rseq-low;
+            buildout-low = p .buildout-low;
+            mlast-low = either-low (stillStores (suc k)) m (p .mlast-low);
+            noise-low = either-low (stillStores (suc k)) n (p .noise-low);
+            clock-low = p .clock-low;
+            end-near = p .end-near;
+          }))
 
       pub decided-number : decision e clock given stamp seq more noise .refusal ≡ playRefusal e clock given stamp seq
       decided-number = by-decision (λ d. d .refusal ≡ playRefusal e clock given stamp seq) (λ z. sym z) (λ k z. z)
@@ -245,9 +276,19 @@ module _ (e : Endpoint) (clock : ℕ) where
           (λ z r. (due-after-end, refl))
           (λ k z r. absurd (omega arith))
 
-      -- a refused call leaves the record as it came
-      pub decided-kept : (decision e clock given stamp seq more noise .refusal ≡ 0 → ⊥) → decision e clock given stamp seq more noise .after ≡ e
-      decided-kept = by-decision (λ d. (d .refusal ≡ 0 → ⊥) → d .after ≡ e) (λ z r. absurd (r refl)) (λ k z r. refl)
+      -- what a refused call leaves of the record goes by its number
+      pub decided-left : (decision e clock given stamp seq more noise .refusal ≡ 0 → ⊥)
+          → decision e clock given stamp seq more noise .after ≡ afterRefused e (decision e clock given stamp seq more noise .refusal) more noise
+      decided-left = by-decision (λ d. (d .refusal ≡ 0 → ⊥) → d .after ≡ afterRefused e (d .refusal) more noise) (λ z r. absurd (r refl)) (λ k z r. refl)
+
+      -- M_LAST and the last noise are set by a packet that counts as received, and by no other
+      pub decided-last : (decision e clock given stamp seq more noise .after .mlast ≡ cond (isReceived (decision e clock given stamp seq more noise .refusal)) more (e .mlast))
+          × (decision e clock given stamp seq more noise .after .lastnoise ≡ cond (isReceived (decision e clock given stamp seq more noise .refusal)) noise (e .lastnoise))
+      decided-last =
+          by-decision
+          (λ d. (d .after .mlast ≡ cond (isReceived (d .refusal)) more (e .mlast)) × (d .after .lastnoise ≡ cond (isReceived (d .refusal)) noise (e .lastnoise)))
+          (λ z. (refl, refl))
+          (λ k z. let h = ne-eqb (suc k) 0 (λ w. omega arith) in (rw h, rw h))
 
       -- what is scheduled can be read
       pub decided-readable : decision e clock given stamp seq more noise .refusal ≡ 0 → given ≡ 0

@@ -1,4 +1,4 @@
--- Document 01, "Play-out", and numbers 14, 17, 18 and 20 of "Refusal numbers": the decision over a frame's plain fields and the endpoint's record.
+-- Document 01, "Play-out", and numbers 14, 17, 18 and 20 of "Refusal numbers", amended by request A2: the decision over a frame's plain fields and the endpoint's record.
 use Prim.Native.Nat.{ℕ, _+_, _-_, _^_, max}
 use mathlib.Core.Bool.{Bool, cond, not, _&&_, _||_}
 use lib.Dec.{ltb, eqb}
@@ -86,12 +86,26 @@ afterScheduled e clock seq more noise due = record {
 abbrev pub scheduledAt : Endpoint → ℕ → ℕ → ℕ → ℕ → ℕ → Decision
 scheduledAt e clock seq more noise due = record { refusal = 0; due = due; after = afterScheduled e clock seq more noise due }
 
--- a refused call leaves the record untouched
-abbrev pub refusedWith : Endpoint → ℕ → Decision
-refusedWith e n = record { refusal = n; due = 0; after = e }
+-- A2: a frame refused with 17 or 20 still stores its more bit and noise
+abbrev pub stillStores : ℕ → Bool
+stillStores n = eqb n 17 || eqb n 20
+
+-- the record after a frame that is refused: those two, and nothing else of the record
+abbrev pub afterRefused : Endpoint → ℕ → ℕ → ℕ → Endpoint
+afterRefused e n more noise = record {
+  buildout = e .buildout;
+  rseq = e .rseq;
+  lastclock = e .lastclock;
+  end = e .end;
+  mlast = cond (stillStores n) more (e .mlast);
+  lastnoise = cond (stillStores n) noise (e .lastnoise);
+}
+
+abbrev pub refusedWith : Endpoint → ℕ → ℕ → ℕ → Decision
+refusedWith e n more noise = record { refusal = n; due = 0; after = afterRefused e n more noise }
 
 unfoldable pub decision : Endpoint → ℕ → ℕ → ℕ → ℕ → ℕ → ℕ → Decision
 decision e clock given stamp seq more noise =
     ifTaken (playRefusal e clock given stamp seq)
     (scheduledAt e clock seq more noise (dueAt e clock stamp seq))
-    (refusedWith e (playRefusal e clock given stamp seq))
+    (refusedWith e (playRefusal e clock given stamp seq) more noise)

@@ -140,13 +140,19 @@ fn rseq_after(seq: u8, more: u8) -> u8
     if more == 1 { next_number(seq) } else { 0 }
 }
 
-fn refused(e: Endpoint, n: u8) -> Decision
-    ensures { λ r. ⌜ r ≡ refusedWith e n ⌝ }
+// A frame that is late or due too far ahead is heard of: its more bit and noise are those of the last packet received.
+fn refused(e: Endpoint, n: u8, more: u8, noise: u8) -> Decision
+    ensures { λ r. ⌜ r ≡ refusedWith e n more noise ⌝ }
 {
+    let mut left = e;
+    if (n == 17) | (n == 20) {
+        left.mlast = more;
+        left.lastnoise = noise;
+    }
     Decision {
         refusal: n,
         due: 0,
-        after: e,
+        after: left,
     }
 }
 
@@ -175,7 +181,7 @@ fn decide(e: Endpoint, clock: u64, given: u8, stamp: u8, seq: u8, more: u8, nois
 {
     let first = or_else(refusal_14(e), or_else(refusal_18(e, clock), given));
     if first != 0 {
-        return refused(e, first);
+        return refused(e, first, more, noise);
     }
     let due = due_at(e, clock, stamp, seq);
     let last = or_else(
@@ -183,7 +189,7 @@ fn decide(e: Endpoint, clock: u64, given: u8, stamp: u8, seq: u8, more: u8, nois
         refuse(past(due, clock, 439), 20),
     );
     if last != 0 {
-        return refused(e, last);
+        return refused(e, last, more, noise);
     }
     scheduled(e, clock, seq, more, noise, due)
 }
