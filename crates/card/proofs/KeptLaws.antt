@@ -1,21 +1,21 @@
 -- A record of numbers: where one of them fits no octet, the record is out of range, and so is the one whose number is cut to 255.
-use Prim.Native.Nat.{ℕ, zero, suc, _≤_, min}
+use Prim.Native.Nat.{ℕ, _≤_, min}
 use mathlib.Core.Path.{_≡_, refl, sym, ap, subst, _∙_}
-use mathlib.Core.Bool.{Bool, true, false}
+use mathlib.Core.Bool.{Bool, true, false, cond}
 use mathlib.Core.List.{List, [], _∷_}
 use native.Mathlib.Omega.{arith}
+use lib.Dec.{eqb}
 use lib.ListN.{length, getD, replicate}
-use Rattle.refusals.specs.Refusals.{ifTaken}
+use borrow.Author.Tests.{eqb-true, eqb-false}
 use Rattle.refusals.proofs.RefusalLaws.{refuse-zero, if-refused, done-is}
-use Rattle.frame.specs.Fields.{stamp, moreBit, sequence, noise}
-use Rattle.frame.specs.Orders.{voiceRefusal}
 use Rattle.endpoint.specs.Arrival.{frameDecision, resetOf, arrivalBy, arrivalOf}
 use Rattle.endpoint.specs.Play.{recordBad, refusal14, playRefusal, decision}
 use Rattle.endpoint.specs.Read.{heardOf}
 use Rattle.endpoint.specs.declared.Endpoint.{Endpoint}
 use Rattle.endpoint.specs.declared.Arrival.{Arrival}
 use Rattle.endpoint.specs.declared.Arrived.{Arrived}
-use Rattle.endpoint.proofs.PlayLaws.{InRange, in-range, range-in, decided-kept}
+use Rattle.endpoint.proofs.PlayLaws.{InRange, in-range, range-in}
+use Rattle.endpoint.proofs.ArrivalLaws.{arrival-kept}
 use Rattle.card.specs.Card.{arrivalNumbers, recordNumbers, recordOf, recordRefusal, refusedArrival, keptArrival, keptAfter, Arrives}
 
 abbrev pub narrowed : Endpoint → Endpoint
@@ -66,11 +66,6 @@ module _ (e : Endpoint) where
     unfolding arrivalOf arrivalBy frameDecision decision playRefusal resetOf heardOf
     out-of-range h = rw h
 
-    -- a refused call hands back the record that came
-    pub refused-after : (arrivalOf e f clock .answer .refusal ≡ 0 → ⊥) → arrivalOf e f clock .after ≡ e
-    unfolding arrivalOf arrivalBy frameDecision
-    refused-after h = decided-kept e clock (voiceRefusal f) (stamp f) (sequence f) (moreBit f) (noise f) h
-
 narrow-bad : (e : Endpoint) → recordBad e ≡ true → recordBad (narrowed e) ≡ true
 narrow-bad e h = go (recordBad (narrowed e)) refl where
   go : (b : Bool) → recordBad (narrowed e) ≡ b → b ≡ true
@@ -95,11 +90,11 @@ module _ (e : Endpoint) (f : List ℕ) (clock : ℕ) where
       by-range (λ a b. a .answer ≡ b .answer) refl
       (λ k. ap (λ (a : Arrived). a .answer) (out-of-range (narrowed e) f clock (narrow-bad e k)) ∙ sym (ap (λ (a : Arrived). a .answer) (out-of-range e f clock k)))
 
-  -- and where it is taken leaves the same
-  pub narrow-after : arrivalOf (narrowed e) f clock .answer .refusal ≡ 0 → arrivalOf (narrowed e) f clock .after ≡ arrivalOf e f clock .after
+  -- and leaves the same but where it is out of range
+  pub narrow-after : (arrivalOf (narrowed e) f clock .answer .refusal ≡ 14 → ⊥) → arrivalOf (narrowed e) f clock .after ≡ arrivalOf e f clock .after
   narrow-after =
-      by-range (λ a b. a .answer .refusal ≡ 0 → a .after ≡ b .after) (λ z. refl)
-      (λ k z. let n = ap (λ (a : Arrived). a .answer .refusal) (out-of-range (narrowed e) f clock (narrow-bad e k)) in absurd (omega arith))
+      by-range (λ a b. (a .answer .refusal ≡ 14 → ⊥) → a .after ≡ b .after) (λ h. refl)
+      (λ k h. absurd (h (ap (λ (a : Arrived). a .answer .refusal) (out-of-range (narrowed e) f clock (narrow-bad e k)))))
 
 module _ (kept f : List ℕ) (clock : ℕ) where
   -- a slice that is no record
@@ -124,20 +119,20 @@ module _ (kept f : List ℕ) (clock : ℕ) where
     unfolding keptArrival
     right = done-is _ r _ _ _ e z same
 
-    after-is : (n : ℕ) → a .answer .refusal ≡ n → ifTaken n (recordNumbers (a .after)) (recordNumbers (recordOf kept)) ≡ keptAfter kept f clock
+    after-is : (t : Bool) → eqb (a .answer .refusal) 14 ≡ t → cond t (recordNumbers (recordOf kept)) (recordNumbers (a .after)) ≡ keptAfter kept f clock
     unfolding keptAfter
-    after-is zero h =
+    after-is true h =
+        let n = sym (ap (λ (b : Arrival). b .refusal) same) ∙ eqb-true (a .answer .refusal) 14 h in
+        ap recordNumbers (sym (arrival-kept (recordOf kept) f clock (λ z. omega arith) (λ z. omega arith) (λ z. omega arith)))
+    after-is false h =
         ap (λ (b : Arrived). recordNumbers (b .after)) p
-        ∙ ap recordNumbers (narrow-after (recordOf kept) f clock (sym (ap (λ (b : Arrived). b .answer .refusal) p) ∙ h))
-    after-is (suc n) h =
-        ap recordNumbers
-        (sym (refused-after (recordOf kept) f clock (λ k. let q = ap (λ (b : Arrival). b .refusal) same in omega arith)))
+        ∙ ap recordNumbers (narrow-after (recordOf kept) f clock (λ k. eqb-false (a .answer .refusal) 14 h (ap (λ (b : Arrived). b .answer .refusal) p ∙ k)))
 
-    pub arrives : (after came : List ℕ) → came ≡ recordNumbers (recordOf kept) → after ≡ ifTaken (a .answer .refusal) (recordNumbers (a .after)) came
+    pub arrives : (after came : List ℕ) → came ≡ recordNumbers (recordOf kept) → after ≡ cond (eqb (a .answer .refusal) 14) came (recordNumbers (a .after))
         → Arrives kept f clock (a .answer .refusal) (arrivalNumbers (a .answer)) (a .answer .samples) after
     arrives after came w q = record {
       number = ap (λ (b : Arrival). b .refusal) right;
       answered = ap arrivalNumbers right;
       heard = ap (λ (b : Arrival). b .samples) right;
-      moved = λ k. q ∙ ap (ifTaken (a .answer .refusal) (recordNumbers (a .after))) w ∙ after-is (a .answer .refusal) refl;
+      moved = λ k. q ∙ ap (λ (l : List ℕ). cond (eqb (a .answer .refusal) 14) l (recordNumbers (a .after))) w ∙ after-is (eqb (a .answer .refusal) 14) refl;
     }

@@ -1,7 +1,9 @@
 // The calls of a card for a host in C or Rust: each public call on numbers and on slices that are lent.
 ghost use mathlib.Core.Path.{_≡_};
+ghost use mathlib.Core.Bool.{cond};
 ghost use mathlib.Core.List.{[], _∷_};
 ghost use Prim.Native.Nat.{_≤_, min};
+ghost use lib.Dec.{eqb};
 ghost use lib.ListN.{length};
 ghost use Rattle.refusals.specs.Refusals.{_orElse_, ifTaken, refusal16};
 ghost use Rattle.coding.specs.Noise.{noiseOf, paper};
@@ -249,11 +251,11 @@ fn narrow(x: u64) -> u8
     if x < 255 { x as u8 } else { 255 }
 }
 
-// A refused call leaves the record as it came, numbers that fit no octet included.
+// A record out of range is left as it came, numbers that fit no octet included; past 14 every number fits its field.
 fn record_after(refusal: u8, moved: Endpoint, came: [u64; 6]) -> [u64; 6]
-    ensures { λ r. ⌜ r ≡ ifTaken refusal (recordNumbers moved) came ⌝ }
+    ensures { λ r. ⌜ r ≡ cond (eqb refusal 14) came (recordNumbers moved) ⌝ }
 {
-    if refusal != 0 {
+    if refusal == 14 {
         return came;
     }
     record_numbers(moved)
