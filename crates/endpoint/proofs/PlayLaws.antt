@@ -92,11 +92,11 @@ not-still n p q = simp (ne-eqb n 17 p, ne-eqb n 20 q)
 -- what a refusal leaves of the record: by 17 and 20 the frame's more bit and noise are stored, by any other number nothing is
 module _ (e : Endpoint) (n more noise : ℕ) where
   pub refused-stores : stillStores n ≡ true
-      → afterRefused e n more noise
-      ≡ record { buildout = e .buildout; rseq = e .rseq; lastclock = e .lastclock; end = e .end; mlast = more; lastnoise = noise }
+      → refusedWith e n more noise
+      ≡ record { refusal = n; due = 0; after = record { buildout = e .buildout; rseq = e .rseq; lastclock = e .lastclock; end = e .end; mlast = more; lastnoise = noise } }
   refused-stores h = rw h
 
-  pub refused-keeps : stillStores n ≡ false → afterRefused e n more noise ≡ e
+  pub refused-keeps : stillStores n ≡ false → refusedWith e n more noise ≡ record { refusal = n; due = 0; after = e }
   refused-keeps h = rw h
 
 -- what no number of the arrival's order refuses

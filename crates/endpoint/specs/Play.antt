@@ -90,7 +90,7 @@ scheduledAt e clock seq more noise due = record { refusal = 0; due = due; after 
 abbrev pub stillStores : ℕ → Bool
 stillStores n = eqb n 17 || eqb n 20
 
--- the record after a frame that is refused: those two, and nothing else of the record
+-- the record after a frame that is refused: 17 and 20 store those two and nothing else, every other number nothing
 abbrev pub afterRefused : Endpoint → ℕ → ℕ → ℕ → Endpoint
 afterRefused e n more noise = record {
   buildout = e .buildout;

@@ -140,7 +140,7 @@ fn rseq_after(seq: u8, more: u8) -> u8
     if more == 1 { next_number(seq) } else { 0 }
 }
 
-// A frame that is late or due too far ahead is heard of: its more bit and noise are those of the last packet received.
+// A frame that is late, or due too far ahead, was received all the same: it stores its more bit and noise.
 fn refused(e: Endpoint, n: u8, more: u8, noise: u8) -> Decision
     ensures { λ r. ⌜ r ≡ refusedWith e n more noise ⌝ }
 {
