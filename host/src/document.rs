@@ -1,5 +1,6 @@
-//! Document 01 in plain Rust, written from the document alone, as the yardstick of the proved
-//! library: what it answers is right if this answers the same, and it is as fast as this or not.
+//! Document 01, amended by request A2 of document 02, in plain Rust. It is written from the documents
+//! alone, as the yardstick of the proved library: what that answers is right if this answers the
+//! same, and it is as fast as this or not.
 
 use std::ops::RangeInclusive;
 
@@ -191,6 +192,10 @@ fn more_of(frame: &[u8]) -> bool {
 
 fn sequence_of(frame: &[u8]) -> u8 {
     frame[7] >> 4
+}
+
+fn noise_of(frame: &[u8]) -> u8 {
+    frame[7] & FOUR_BITS
 }
 
 /// Refusals 1 to 5: what every reader asks of a frame of either kind.
@@ -422,6 +427,16 @@ impl Endpoint {
             && self.m_last <= 1
             && self.last_noise <= FOUR_BITS
     }
+
+    /// When a frame is to be played, or refusal 17 or 20.
+    fn due(&self, sequence: u8, stamp: u8, clock: u64) -> Result<u64, Refusal> {
+        let hold = self.build_out.checked_sub(stamp).ok_or(Late)?;
+        let in_turn = sequence != 0 && sequence == self.rseq;
+        refuse_if(in_turn && clock > self.end, Late)?;
+        let due = if in_turn { self.end } else { self.end.max(clock + u64::from(hold)) };
+        refuse_if(due > clock + AHEAD_MAX, Early)?;
+        Ok(due)
+    }
 }
 
 #[derive(Clone, Debug, PartialEq, Eq)]
@@ -437,22 +452,15 @@ pub fn arrive(endpoint: &mut Endpoint, frame: &[u8], clock: u64) -> Result<Sched
     link_of_kind(frame, Kind::Voice)?;
     let blocks = voice_blocks(frame)?;
 
-    let (sequence, stamp) = (sequence_of(frame), stamp_of(frame));
-    let follows = sequence != 0 && sequence == endpoint.rseq;
-    let Some(hold) = endpoint.build_out.checked_sub(stamp) else { return Err(Late) };
-    refuse_if(follows && clock > endpoint.end, Late)?;
-    let due = if follows { endpoint.end } else { endpoint.end.max(clock + u64::from(hold)) };
-    refuse_if(due > clock + AHEAD_MAX, Early)?;
+    // Received, even if it is not to be played: 17 and 20 leave these two stored and nothing else (A2).
+    let (sequence, more) = (sequence_of(frame), more_of(frame));
+    endpoint.m_last = more.into();
+    endpoint.last_noise = noise_of(frame);
+    let due = endpoint.due(sequence, stamp_of(frame), clock)?;
 
-    let more = more_of(frame);
-    *endpoint = Endpoint {
-        build_out: endpoint.build_out,
-        rseq: if more { next_sequence(sequence) } else { 0 },
-        last_clock: clock,
-        end: due + PACKET_MS,
-        m_last: more.into(),
-        last_noise: frame[7] & FOUR_BITS,
-    };
+    endpoint.rseq = if more { next_sequence(sequence) } else { 0 };
+    endpoint.last_clock = clock;
+    endpoint.end = due + PACKET_MS;
     let reset = sequence == 0 && blocks.coding.resets;
     Ok(Scheduled { due, reset, voice: voice_of(frame, blocks) })
 }
@@ -512,12 +520,21 @@ mod tests {
         forward(frame, level, &departure, &mut out).map(|length| out[..length].to_vec())
     }
 
-    /// A voice frame of type 1 with the more bit set.
-    fn voice_frame(sequence: u8, stamp: u8) -> Vec<u8> {
+    fn type_1(stamp: u8, more: u8, sequence: u8, noise: u8) -> Vec<u8> {
         let mut frame = vec![0; 26];
-        frame[..HEADER].copy_from_slice(&[4, 1, 239, 68, 0, stamp, 0x81, sequence << 4]);
+        frame[..HEADER].copy_from_slice(&[4, 1, 239, 68, 0, stamp, more | 1, sequence << 4 | noise]);
         seal(&mut frame);
         frame
+    }
+
+    /// A voice frame of a burst that goes on, with noise 5.
+    fn voice_frame(sequence: u8, stamp: u8) -> Vec<u8> {
+        type_1(stamp, MORE, sequence, 5)
+    }
+
+    /// The last frame of a burst, with noise 9.
+    fn stop_frame(sequence: u8, stamp: u8) -> Vec<u8> {
+        type_1(stamp, 0, sequence, 9)
     }
 
     #[test]
@@ -601,9 +618,95 @@ mod tests {
         assert_eq!(due(1010, 1, 24), Ok(1086));
         assert_eq!(due(1050, 3, 20), Ok(1130));
         let before = endpoint;
-        assert_eq!(arrive(&mut endpoint, &voice_frame(4, 100), 1147), Err(Late));
-        assert_eq!(endpoint, before);
+        assert_eq!(arrive(&mut endpoint, &stop_frame(4, 100), 1147), Err(Late));
+        assert_eq!(endpoint, Endpoint { m_last: 0, last_noise: 9, ..before });
         assert_eq!(arrive(&mut endpoint, &voice_frame(4, 100), 1146).unwrap().due, 1146);
+    }
+
+    /// Two packets of a burst came, and its third is to follow.
+    const TALKING: Endpoint =
+        Endpoint { build_out: 100, rseq: 2, last_clock: 1010, end: 1102, m_last: 1, last_noise: 5 };
+
+    #[test]
+    fn a_stop_packet_counts_though_it_is_not_played() {
+        let mut talking = Endpoint::fresh(100);
+        arrive(&mut talking, &voice_frame(0, 30), 1000).unwrap();
+        arrive(&mut talking, &voice_frame(1, 24), 1010).unwrap();
+        assert_eq!(talking, TALKING);
+        // Sixteen packets that come all at once are as many as can wait.
+        let mut clump = Endpoint::fresh(199);
+        (0..16).for_each(|sequence| assert!(arrive(&mut clump, &voice_frame(sequence, 0), 1000).is_ok()));
+        assert_eq!((clump.rseq, clump.end, clump.m_last), (1, 1455, 1));
+
+        let (last, noise) = ([1; 128], [2; 128]);
+        for (before, sequence, stamp, clock, refusal) in [
+            // Stamp above B, in turn or not.
+            (talking, 2, 101, 1020, Late),
+            (talking, 3, 200, 1020, Late),
+            // In turn, but what it follows has been played.
+            (talking, 2, 24, 1103, Late),
+            // Too far ahead, in turn or not.
+            (clump, 1, 0, 1000, Early),
+            (clump, 3, 199, 1015, Early),
+        ] {
+            let mut endpoint = before;
+            assert_eq!(arrive(&mut endpoint, &stop_frame(sequence, stamp), clock), Err(refusal));
+            assert_eq!(endpoint, Endpoint { m_last: 0, last_noise: 9, ..before });
+            assert_eq!(fill(&last, &noise, endpoint.m_last), noise);
+            // As late, but of a burst that goes on: the packet is missed, and the last one is repeated.
+            assert_eq!(arrive(&mut endpoint, &voice_frame(sequence, stamp), clock), Err(refusal));
+            assert_eq!(endpoint, Endpoint { m_last: 1, last_noise: 5, ..before });
+            assert_eq!(fill(&last, &noise, endpoint.m_last), last);
+        }
+    }
+
+    #[test]
+    fn every_other_refusal_leaves_the_record() {
+        // The more bit and the noise are not the record's, and the frame is late besides.
+        let stop = stop_frame(2, 101);
+        let refused = |before: Endpoint, frame: &[u8], clock| {
+            let mut after = before;
+            let refusal = arrive(&mut after, frame, clock).unwrap_err();
+            assert_eq!(after, before);
+            refusal
+        };
+        for out_of_range in [
+            Endpoint { build_out: 200, ..TALKING },
+            Endpoint { rseq: 16, ..TALKING },
+            Endpoint { last_clock: CLOCK_MAX + 1, ..TALKING },
+            Endpoint { end: 1010 + 456, ..TALKING },
+            Endpoint { m_last: 2, ..TALKING },
+            Endpoint { last_noise: 16, ..TALKING },
+        ] {
+            assert_eq!(refused(out_of_range, &stop, 1020), Record);
+        }
+        assert_eq!(refused(TALKING, &stop, 1009), Clock);
+        assert_eq!(refused(TALKING, &stop, CLOCK_MAX + 1), Clock);
+
+        let changed = |octet: usize, to: u8, length| {
+            let mut frame = stop.clone();
+            frame[octet - 1] = to;
+            frame.resize(length, 0);
+            seal(&mut frame);
+            frame
+        };
+        let mut wrong_check = stop.clone();
+        wrong_check[25] ^= 1;
+        for (frame, refusal) in [
+            (stop[..9].to_vec(), FrameSize),
+            (changed(4, 68, 491), FrameSize),
+            (changed(1, 5, 26), Address),
+            (changed(3, 7, 26), Control),
+            (wrong_check, Check),
+            (changed(4, 67, 26), Protocol),
+            (changed(3, 3, 10), OtherKind),
+            (changed(7, 14, 26), Refusal::Coding),
+            (changed(5, 1, 26), Dropping),
+            (changed(4, 68, 42), Length),
+            (changed(6, 201, 26), Stamp),
+        ] {
+            assert_eq!(refused(TALKING, &frame, 1020), refusal);
+        }
     }
 
     #[test]

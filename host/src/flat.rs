@@ -65,6 +65,15 @@ fn record_of(endpoint: &Endpoint) -> [u64; RECORD] {
     [build_out.into(), rseq.into(), last_clock, end, m_last.into(), last_noise.into()]
 }
 
+/// Moves a record of numbers on. One that is no record is left as it came; of any other the arrival
+/// itself says what a refusal leaves.
+fn arrived(record: &mut [u64], frame: &[u8], clock: u64) -> Result<Scheduled, Refusal> {
+    let mut endpoint = endpoint_of(record)?;
+    let scheduled = document::arrive(&mut endpoint, frame, clock);
+    record.copy_from_slice(&record_of(&endpoint));
+    scheduled
+}
+
 fn heard(scheduled: Scheduled) -> ([u64; 4], [u8; SAMPLES]) {
     let Scheduled { due, reset, voice } = scheduled;
     ([due, reset.into(), voice.sample_bits.into(), voice.dropped.into()], voice.samples)
@@ -197,12 +206,7 @@ impl Calls for Document {
         if answer.len() < 4 || samples.len() < SAMPLES {
             return SHORT;
         }
-        let scheduled = endpoint_of(record).and_then(|mut endpoint| {
-            let scheduled = document::arrive(&mut endpoint, frame, clock)?;
-            record.copy_from_slice(&record_of(&endpoint));
-            Ok(scheduled)
-        });
-        answered_with_samples(scheduled.map(heard), answer, samples)
+        answered_with_samples(arrived(record, frame, clock).map(heard), answer, samples)
     }
 
     fn arrive_value(
@@ -211,14 +215,13 @@ impl Calls for Document {
         if answer.len() < 4 || samples.len() < SAMPLES || after.len() < RECORD {
             return SHORT;
         }
-        if record.len() == RECORD {
-            after[..RECORD].copy_from_slice(record);
-        }
-        let scheduled = endpoint_of(record).and_then(|mut endpoint| {
-            let scheduled = document::arrive(&mut endpoint, frame, clock)?;
-            after[..RECORD].copy_from_slice(&record_of(&endpoint));
-            Ok(scheduled)
-        });
+        let scheduled = if record.len() == RECORD {
+            let after = &mut after[..RECORD];
+            after.copy_from_slice(record);
+            arrived(after, frame, clock)
+        } else {
+            Err(Refusal::Record)
+        };
         answered_with_samples(scheduled.map(heard), answer, samples)
     }
 
@@ -304,6 +307,45 @@ mod tests {
         let (mut watch, mut answer) = (watch.to_vec(), [UNUSED; 5]);
         let number = Document.watch_tell(&mut watch, clock, event, bits, flag, &mut answer);
         (number, watch, answer)
+    }
+
+    /// The number and the record after a frame came, which both calls agree on.
+    fn arrive(record: &[u64], frame: &[u8], clock: u64) -> (u8, Vec<u64>) {
+        let (mut lent, mut answer, mut samples) = (record.to_vec(), [UNUSED; 4], [0; SAMPLES]);
+        let number = Document.arrive(&mut lent, frame, clock, &mut answer, &mut samples);
+        let mut after = [UNUSED; RECORD];
+        assert_eq!(Document.arrive_value(record, frame, clock, &mut after, &mut answer, &mut samples), number);
+        assert_eq!(&after[..], if record.len() == RECORD { &lent[..] } else { &[UNUSED; RECORD] });
+        (number, lent)
+    }
+
+    #[test]
+    fn arrive_in_numbers() {
+        // The last packet of a burst, with noise 9, and records that are inside it, with noise 5.
+        let (mut stop, departure) = ([0; 26], Departure { from: 0, to: 24, address: 128 });
+        let packet = Packet { step: Step::Stop, coding: 1, noise: 9, samples: &[0; SAMPLES] };
+        document::send(&mut 2, &packet, 0, &departure, &mut stop).unwrap();
+        let inside = [100, 2, 1010, 1102, 1, 5];
+        assert_eq!(arrive(&inside, &stop, 1102), (0, vec![100, 0, 1102, 1118, 0, 9]));
+        assert_eq!(arrive(&inside, &stop, 1103), (17, vec![100, 2, 1010, 1102, 0, 9]));
+        assert_eq!(arrive(&[23, 2, 1010, 1102, 1, 5], &stop, 1102), (17, vec![23, 2, 1010, 1102, 0, 9]));
+        assert_eq!(arrive(&[100, 2, 1010, 1465, 1, 5], &stop, 1025), (20, vec![100, 2, 1010, 1465, 0, 9]));
+
+        let left = |number, record: &[u64], frame: &[u8], clock| {
+            assert_eq!(arrive(record, frame, clock), (number, record.to_vec()));
+        };
+        left(18, &inside, &stop, 1009);
+        left(1, &inside, &stop[..9], 1103);
+        left(14, &inside[..5], &stop, 1103);
+        left(14, &[100, 2, 1010, 1102, 1, 5, 0], &stop, 1103);
+        for (field, limit) in [(0, 199), (1, 15), (2, 1 << 62), (3, 1010 + 455), (4, 1), (5, 15)] {
+            // 256 and the like are in range by their lowest octet.
+            for number in [limit + 1, limit.max(255) + 1, u64::MAX] {
+                let mut record = inside;
+                record[field] = number;
+                left(14, &record, &stop, 1103);
+            }
+        }
     }
 
     #[test]

@@ -2,7 +2,7 @@
 //! edges of each timer, clocks and numbers, and what a watch damaged in one field was refused by.
 
 use crate::inputs::{CLOCK_MAX, PROVISIONS, TIMERS, WATCH_FIELDS};
-use crate::table::Table;
+use crate::table::{crossed, Table};
 use pelgrant_host::document::Refusal;
 use pelgrant_host::flat;
 use pelgrant_host::watch::{Cause, Event, Terminating, Told, Watch};
@@ -20,14 +20,6 @@ pub struct Cases {
     edges: Table,
     numbers: Table,
     damage: Table,
-}
-
-/// A name for every choice of one from each part, the last part changing fastest.
-fn crossed(parts: &[&[&str]]) -> Vec<String> {
-    parts.iter().fold(Vec::new(), |names, part| match names.is_empty() {
-        true => part.iter().map(|name| name.to_string()).collect(),
-        false => names.iter().flat_map(|first| part.iter().map(move |name| format!("{first}, {name}"))).collect(),
-    })
 }
 
 impl Cases {

@@ -4,6 +4,7 @@
 //! `differential [INPUTS [SEED]]`: INPUTS for each call, more for the events of a watch, and a tenth
 //! as many chains.
 
+mod arrivals;
 mod cases;
 mod inputs;
 mod lent;
@@ -11,6 +12,7 @@ mod random;
 mod table;
 mod tally;
 
+use arrivals::Arrivals;
 use cases::Cases;
 use inputs::{Draft, Faults, FLAT_13, FLAT_14, FLAT_16, FLAT_21};
 use lent::Lent;
@@ -35,6 +37,7 @@ struct Run {
     different: u64,
     /// The record that the last arrival left, so that whole bursts are played and not only single frames.
     carried: [u64; 6],
+    arrivals: Arrivals,
     /// The watch that the last event left.
     watch: [u64; 9],
     cases: Cases,
@@ -229,8 +232,8 @@ impl Run {
         let (record, clock, frame) = self.arrival(faults);
         let (answer, samples) = self.answer_and_samples(4, faults);
         let random = &mut self.random;
-        let (record, frame) = (lent::numbers(random, &record), lent::octets(random, &frame));
-        let lent = Lent { record, frame, answer, samples, ..Lent::default() };
+        let (lent_record, lent_frame) = (lent::numbers(random, &record), lent::octets(random, &frame));
+        let lent = Lent { record: lent_record, frame: lent_frame, answer, samples, ..Lent::default() };
         let (number, after) = self.compare(Call::Arrive, flat(faults), &[clock], lent, |calls, lent| {
             calls.arrive(
                 lent.record.part_mut(),
@@ -240,9 +243,7 @@ impl Run {
                 lent.samples.part_mut(),
             )
         });
-        if number == 0 {
-            self.carried.copy_from_slice(after.record.part());
-        }
+        self.arrived(Call::Arrive, flat(faults), number, &record, &frame, after.record.part());
     }
 
     fn arrive_value(&mut self) {
@@ -254,9 +255,9 @@ impl Run {
         let others = if short_after && random.one_in(2) { Faults::NONE } else { faults };
         let after_length = inputs::room(random, 6, short_after);
         let after = lent::slots(random, after_length);
-        let (record, frame) = (lent::numbers(random, &record), lent::octets(random, &frame));
+        let (lent_record, lent_frame) = (lent::numbers(random, &record), lent::octets(random, &frame));
         let (answer, samples) = self.answer_and_samples(4, others);
-        let lent = Lent { record, after, frame, answer, samples, ..Lent::default() };
+        let lent = Lent { record: lent_record, after, frame: lent_frame, answer, samples, ..Lent::default() };
         let (number, after) = self.compare(Call::ArriveValue, flat(faults), &[clock], lent, |calls, lent| {
             calls.arrive_value(
                 lent.record.part(),
@@ -267,8 +268,14 @@ impl Run {
                 lent.samples.part_mut(),
             )
         });
-        if number == 0 {
-            self.carried.copy_from_slice(&after.after.part()[..6]);
+        self.arrived(Call::ArriveValue, flat(faults), number, &record, &frame, after.after.part());
+    }
+
+    /// Counts an arrival, and goes on with the record where the call may have changed it.
+    fn arrived(&mut self, call: Call, flat: Option<usize>, number: u8, record: &[u64], frame: &[u8], after: &[u64]) {
+        self.arrivals.met(call, flat.unwrap_or(number.into()), record, frame);
+        if matches!(number, 0 | 17 | 20) {
+            self.carried.copy_from_slice(&after[..6]);
         }
     }
 
@@ -507,6 +514,7 @@ fn main() -> ExitCode {
         chains: 0,
         different: 0,
         carried: [100, 0, 0, 0, 0, 0],
+        arrivals: Arrivals::new(),
         watch: [16, 10_000, 25_000, 0, 0, 0, 0, 0, 0],
         cases: Cases::new(),
     };
@@ -519,7 +527,7 @@ fn main() -> ExitCode {
     println!("Seed {seed}; . where there can be none\n");
     let calls = ("Inputs by call and refusal", &run.tally.table);
     let mut amiss = Vec::new();
-    for (title, table) in std::iter::once(calls).chain(run.cases.tables()) {
+    for (title, table) in std::iter::once(calls).chain(run.arrivals.tables()).chain(run.cases.tables()) {
         println!("{title}");
         table.print();
         println!();

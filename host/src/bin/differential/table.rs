@@ -56,3 +56,11 @@ impl Table {
         line("all", (0..self.columns.len()).map(|column| self.of_column(column).to_string()).collect());
     }
 }
+
+/// A name for every choice of one from each part, the last part changing fastest.
+pub fn crossed(parts: &[&[&str]]) -> Vec<String> {
+    parts.iter().fold(Vec::new(), |names, part| match names.is_empty() {
+        true => part.iter().map(|name| name.to_string()).collect(),
+        false => names.iter().flat_map(|first| part.iter().map(move |name| format!("{first}, {name}"))).collect(),
+    })
+}

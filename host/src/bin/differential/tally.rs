@@ -85,7 +85,7 @@ impl Call {
     }
 }
 
-fn label(outcome: usize) -> String {
+pub fn label(outcome: usize) -> String {
     match outcome {
         0 => "done".into(),
         FLAT_13 => "flat 13".into(),
