@@ -1,18 +1,26 @@
-/* One burst of speech from an origin through two nodes to an endpoint, as an operator would want to
- * see it: what each frame weighs on the way, when it is played and what is left of the voice. And the
- * signalling of a trunk that dies and comes back. */
+/* Two bursts of speech from an origin through two nodes to an endpoint, as an operator would want to
+ * see them: what each frame weighs on the way, when it is played and what is left of the voice. The
+ * stop packet of the second comes late. And the signalling of a trunk that dies and comes back. */
 
 #include <stdio.h>
 #include <string.h>
 
 #include "pelgrant.h"
 
-enum { CODING = 21, NOISE = 3, BUILD_OUT = 100, PACKETS = 6 };
+enum { CODING = 21, NOISE = 3, NOISE_AT_STOP = 5, BUILD_OUT = 100, PACKETS = 6, LATE = 17 };
 
 typedef struct {
     uint8_t octets[PELGRANT_FRAME_MAX];
     size_t length;
 } frame;
+
+/* What the two ends of a circuit keep: the origin its number, the endpoint its record, the time on the
+ * play clock and the samples last played. */
+typedef struct {
+    uint8_t sseq;
+    uint64_t record[PELGRANT_RECORD], clock;
+    uint8_t played[PELGRANT_SAMPLES];
+} circuit;
 
 /* A slow rise and fall, a little further on with each packet. */
 static void speak(int packet, uint8_t samples[PELGRANT_SAMPLES])
@@ -78,74 +86,102 @@ static int trunk(void)
     return 0;
 }
 
-int main(void)
+static void heading(const char *title)
+{
+    printf("%s\n\nstep   sequence  octets sent  after node 1  after node 2  delay  arrives   due  dropped  reset"
+           "  sum spoken  sum heard  first samples heard\n", title);
+}
+
+/* A packet of a burst that begins at this time of the play clock; it waits so long at the second node. */
+static int packet(circuit *line, uint64_t begins, int place, uint32_t wait)
 {
     /* The second node is busy in the middle of the burst and drops what it may. */
     static const uint8_t busy[PACKETS] = {0, 0, 2, 2, 1, 0};
-    static const uint32_t waits[PACKETS] = {12, 20, 64, 58, 47, 31};
     static const char *const names[] = {"START", "DATA", "STOP"};
+    uint8_t step = place == 0 ? PELGRANT_START : place < PACKETS - 1 ? PELGRANT_DATA : PELGRANT_STOP;
+    uint8_t samples[PELGRANT_SAMPLES], heard[PELGRANT_SAMPLES];
+    uint64_t answer[4];
+    frame passing = {{0}, 0};
+    uint32_t made = (uint32_t)(4294967280u + 16u * (uint32_t)place); /* the node's clock rolls over */
 
-    uint8_t sseq = 0;
-    uint64_t record[PELGRANT_RECORD];
-    uint8_t heard[PELGRANT_SAMPLES] = {0};
-    uint8_t number = pelgrant_fresh(BUILD_OUT, record, PELGRANT_RECORD);
+    speak(place, samples);
+    uint8_t number = pelgrant_send(&line->sseq, step, CODING, step == PELGRANT_STOP ? NOISE_AT_STOP : NOISE, samples,
+        sizeof samples, 0, made, made + 2, 128, passing.octets, sizeof passing.octets, answer, 1);
+    if (number != 0)
+        return refused("the origin", number);
+    passing.length = (size_t)answer[0];
+    printf("%-5s  %8d  %11zu", names[step], passing.octets[7] >> 4, passing.length);
+
+    number = node(&passing, 1, made + 2, made + 9, 300);
+    if (number != 0)
+        return refused("node 1", number);
+    printf("  %12zu", passing.length);
+
+    number = node(&passing, busy[place], made + 9, made + 9 + wait, 4711);
+    if (number != 0)
+        return refused("node 2", number);
+    line->clock = begins + 16 * (uint64_t)place + 9 + wait;
+    printf("  %12zu  %5d  %7llu", passing.length, passing.octets[5], (unsigned long long)line->clock);
+
+    number = pelgrant_arrive(line->record, PELGRANT_RECORD, passing.octets, passing.length, line->clock, answer, 4,
+        heard, sizeof heard);
+    if (number == LATE) {
+        printf("  late\n");
+        return 0;
+    }
+    if (number != 0)
+        return refused("the endpoint", number);
+    memcpy(line->played, heard, sizeof heard);
+    printf("  %4llu  %7llu  %5s  %10u  %9u ", (unsigned long long)answer[0], (unsigned long long)answer[3],
+        answer[1] ? "yes" : "no", sum(samples), sum(heard));
+    for (int n = 0; n < 10; n++)
+        printf(" %d", heard[n]);
+    printf("\n");
+    return 0;
+}
+
+/* What is played while no packet comes: M_LAST chooses, and the last noise gives the level. */
+static int absence(const circuit *line)
+{
+    uint8_t noise[PELGRANT_SAMPLES], fill[PELGRANT_SAMPLES];
+    uint64_t end = line->record[PELGRANT_END], filled = 0, idle = 0;
+    double level = 0;
+    memset(noise, 16, sizeof noise);
+    uint8_t number = pelgrant_fill(line->played, sizeof line->played, noise, sizeof noise,
+        (uint8_t)line->record[PELGRANT_M_LAST], fill, sizeof fill, &filled, 1);
+    if (number != 0)
+        return refused("the fill", number);
+    number = pelgrant_noise_level((uint8_t)line->record[PELGRANT_LAST_NOISE], &idle, 1, &level, 1);
+    if (number != 0)
+        return refused("the noise level", number);
+    printf("from %llu ms: %llu samples of %s, noise level %.1f dBmc0%s\n",
+        (unsigned long long)(line->clock > end ? line->clock : end), (unsigned long long)filled,
+        memcmp(fill, noise, sizeof fill) == 0 ? "noise" : "the last packet", level, idle ? " (idle)" : "");
+    return 0;
+}
+
+int main(void)
+{
+    static const uint32_t waits[PACKETS] = {12, 20, 64, 58, 47, 31};
+    circuit line = {0, {0}, 0, {0}};
+    uint8_t number = pelgrant_fresh(BUILD_OUT, line.record, PELGRANT_RECORD);
     if (number != 0)
         return refused("the endpoint", number);
 
-    printf("One burst, coding type %d, two nodes, build-out %d ms\n\n", CODING, BUILD_OUT);
-    printf("step   sequence  octets sent  after node 1  after node 2  delay  arrives   due  dropped  reset"
-           "  sum spoken  sum heard  first samples heard\n");
-    for (int packet = 0; packet < PACKETS; packet++) {
-        uint8_t step = packet == 0 ? PELGRANT_START : packet < PACKETS - 1 ? PELGRANT_DATA : PELGRANT_STOP;
-        uint8_t samples[PELGRANT_SAMPLES];
-        uint64_t answer[4];
-        frame passing = {{0}, 0};
-        uint32_t made = (uint32_t)(4294967280u + 16u * (uint32_t)packet); /* the node's clock rolls over */
+    printf("Coding type %d, two nodes, build-out %d ms\n\n", CODING, BUILD_OUT);
+    heading("One burst");
+    for (int place = 0; place < PACKETS; place++)
+        if (packet(&line, 1000, place, waits[place]) != 0)
+            return 1;
+    if (absence(&line) != 0)
+        return 1;
 
-        speak(packet, samples);
-        number = pelgrant_send(&sseq, step, CODING, NOISE, samples, sizeof samples, 0, made, made + 2, 128,
-            passing.octets, sizeof passing.octets, answer, 1);
-        if (number != 0)
-            return refused("the origin", number);
-        passing.length = (size_t)answer[0];
-        printf("%-5s  %8d  %11zu", names[step], passing.octets[7] >> 4, passing.length);
-
-        number = node(&passing, 1, made + 2, made + 9, 300);
-        if (number != 0)
-            return refused("node 1", number);
-        printf("  %12zu", passing.length);
-
-        number = node(&passing, busy[packet], made + 9, made + 9 + waits[packet], 4711);
-        if (number != 0)
-            return refused("node 2", number);
-        uint64_t clock = 1000 + 16 * (uint64_t)packet + 9 + waits[packet];
-        printf("  %12zu  %5d  %7llu", passing.length, passing.octets[5], (unsigned long long)clock);
-
-        number = pelgrant_arrive(record, PELGRANT_RECORD, passing.octets, passing.length, clock, answer, 4,
-            heard, sizeof heard);
-        if (number != 0)
-            return refused("the endpoint", number);
-        printf("  %4llu  %7llu  %5s  %10u  %9u ", (unsigned long long)answer[0], (unsigned long long)answer[3],
-            answer[1] ? "yes" : "no", sum(samples), sum(heard));
-        for (int n = 0; n < 10; n++)
-            printf(" %d", heard[n]);
-        printf("\n");
-    }
-
-    /* After the burst the endpoint plays noise at the level that came with the last packet. */
-    uint8_t noise[PELGRANT_SAMPLES], fill[PELGRANT_SAMPLES];
-    uint64_t filled = 0, idle = 0;
-    double level = 0;
-    memset(noise, 16, sizeof noise);
-    number = pelgrant_fill(heard, sizeof heard, noise, sizeof noise, (uint8_t)record[PELGRANT_M_LAST],
-        fill, sizeof fill, &filled, 1);
-    if (number != 0)
-        return refused("the fill", number);
-    number = pelgrant_noise_level((uint8_t)record[PELGRANT_LAST_NOISE], &idle, 1, &level, 1);
-    if (number != 0)
-        return refused("the noise level", number);
-    printf("\nAfter the burst, from %llu ms: %llu samples of %s, noise level %.1f dBmc0%s\n",
-        (unsigned long long)record[PELGRANT_END], (unsigned long long)filled,
-        memcmp(fill, noise, sizeof fill) == 0 ? "noise" : "the last packet", level, idle ? " (idle)" : "");
+    printf("\n");
+    heading("The next, whose stop packet comes late");
+    for (int place = 0; place < PACKETS - 1; place++)
+        if (packet(&line, 2000, place, waits[place]) != 0)
+            return 1;
+    if (absence(&line) != 0 || packet(&line, 2000, PACKETS - 1, 140) != 0 || absence(&line) != 0)
+        return 1;
     return trunk();
 }
