@@ -1,5 +1,5 @@
-/* The calls of the card, for a host in C. Document 01 is the law of what they do; for the two calls of
- * the signalling watch it is request A1 of document 02.
+/* The calls of the card, for a host in C. Document 01 is the law of what they do, as request A2 of
+ * document 02 amends it; for the two calls of the signalling watch it is request A1.
  *
  * Every call takes any octets and any numbers, comes to an end and gives a refusal number of
  * those documents, 0 when done. Where several apply, the one that stands first in the call's order,
@@ -14,8 +14,9 @@
  * may be longer than is needed; the rest of it is left alone. In the orders below this first 16 is
  * written "16 (answer)".
  *
- * A refused call leaves SSEQ, the record, the watch and the buffer for a frame as they came. A frame
- * written leaves the rest of its buffer as it was.
+ * A refused call leaves SSEQ, the record, the watch and the buffer for a frame as they came, but for
+ * one thing: an arrival refused with 17 or 20 still stores the frame's more bit and noise in the
+ * record. A frame written leaves the rest of its buffer as it was.
  *
  * A frame is the octets between two flags, zero bits already taken out: 10 to 490 octets, and none
  * that is written here is longer than PELGRANT_FRAME_MAX. A wait is lent as two readings of a
@@ -126,13 +127,14 @@ uint8_t pelgrant_fresh(uint8_t buildout, uint64_t *record, size_t record_len);
  *   sample bits S, answer[3] the blocks dropped; the first 128 of samples; the record moved on.
  * Refusals: 16 (answer below 4 or samples below 128), 14 where record_len is not 6, 14, 18,
  *   1, 2, 3, 4, 5, 19, 6, 7, 8, 9, 17, 20.
- * Untouched: frame; where refused, the record. */
+ * Untouched: frame; where refused, the record, save that 17 and 20 (late, due too far ahead) store the
+ *   frame's more bit in M_LAST and its noise in the last noise: a late stop packet counts as a stop. */
 uint8_t pelgrant_arrive(uint64_t *record, size_t record_len, const uint8_t *frame, size_t frame_len, uint64_t clock,
     uint64_t *answer, size_t answer_len, uint8_t *samples, size_t samples_len);
 
 /* The same on a record by value.
  * Lent and back as for pelgrant_arrive, but the record is only read, and the first 6 of after are the
- *   record after the call: where refused, the record as it came.
+ *   record after the call: where refused, the record as it came, save for what 17 and 20 store.
  * Refusals: as for pelgrant_arrive, the first 16 also where after is below 6.
  * Untouched: record and frame; after where record_len is not 6. */
 uint8_t pelgrant_arrive_value(const uint64_t *record, size_t record_len, const uint8_t *frame, size_t frame_len,
@@ -148,7 +150,8 @@ uint8_t pelgrant_signal_read(uint8_t buildout, const uint8_t *frame, size_t fram
     uint64_t *answer, size_t answer_len);
 
 /* What to play where no packet came.
- * Lent: last, the samples last played, and noise, the host's, both at least 128; m_last of the record.
+ * Lent: last, the samples last played, and noise, the host's, both at least 128; m_last of the record,
+ *   the more bit of the last packet received.
  * Back: the first 128 of out, copied from last if m_last is 1, else from noise, and answer[0] 128; or
  *   answer[0] 0 where last or noise is shorter than 128.
  * Refusals: 16 (answer below 1 or out below 128).
