@@ -7,6 +7,7 @@
 
 #include "pelgrant.h"
 
+/* The stop packet has a noise of its own, so that it is seen to count. */
 enum { CODING = 21, NOISE = 3, NOISE_AT_STOP = 5, BUILD_OUT = 100, PACKETS = 6, LATE = 17 };
 
 typedef struct {
@@ -92,7 +93,7 @@ static void heading(const char *title)
            "  sum spoken  sum heard  first samples heard\n", title);
 }
 
-/* A packet of a burst that begins at this time of the play clock; it waits so long at the second node. */
+/* A packet of a burst that begins at this time of the play clock; wait is its wait at the second node. */
 static int packet(circuit *line, uint64_t begins, int place, uint32_t wait)
 {
     /* The second node is busy in the middle of the burst and drops what it may. */
@@ -102,7 +103,7 @@ static int packet(circuit *line, uint64_t begins, int place, uint32_t wait)
     uint8_t samples[PELGRANT_SAMPLES], heard[PELGRANT_SAMPLES];
     uint64_t answer[4];
     frame passing = {{0}, 0};
-    uint32_t made = (uint32_t)(4294967280u + 16u * (uint32_t)place); /* the node's clock rolls over */
+    uint32_t made = (uint32_t)(4294966280u + begins + 16 * (uint64_t)place); /* rolls over in the first burst */
 
     speak(place, samples);
     uint8_t number = pelgrant_send(&line->sseq, step, CODING, step == PELGRANT_STOP ? NOISE_AT_STOP : NOISE, samples,
@@ -141,7 +142,7 @@ static int packet(circuit *line, uint64_t begins, int place, uint32_t wait)
 }
 
 /* What is played while no packet comes: M_LAST chooses, and the last noise gives the level. */
-static int absence(const circuit *line)
+static int play_without_packet(const circuit *line)
 {
     uint8_t noise[PELGRANT_SAMPLES], fill[PELGRANT_SAMPLES];
     uint64_t end = line->record[PELGRANT_END], filled = 0, idle = 0;
@@ -154,9 +155,11 @@ static int absence(const circuit *line)
     number = pelgrant_noise_level((uint8_t)line->record[PELGRANT_LAST_NOISE], &idle, 1, &level, 1);
     if (number != 0)
         return refused("the noise level", number);
-    printf("from %llu ms: %llu samples of %s, noise level %.1f dBmc0%s\n",
-        (unsigned long long)(line->clock > end ? line->clock : end), (unsigned long long)filled,
-        memcmp(fill, noise, sizeof fill) == 0 ? "noise" : "the last packet", level, idle ? " (idle)" : "");
+    printf("no packet, from %llu ms: ", (unsigned long long)(line->clock > end ? line->clock : end));
+    if (memcmp(fill, noise, sizeof fill) == 0)
+        printf("%llu samples of noise at %.1f dBmc0%s\n", (unsigned long long)filled, level, idle ? " (idle)" : "");
+    else
+        printf("the last %llu samples again\n", (unsigned long long)filled);
     return 0;
 }
 
@@ -173,7 +176,7 @@ int main(void)
     for (int place = 0; place < PACKETS; place++)
         if (packet(&line, 1000, place, waits[place]) != 0)
             return 1;
-    if (absence(&line) != 0)
+    if (play_without_packet(&line) != 0)
         return 1;
 
     printf("\n");
@@ -181,7 +184,8 @@ int main(void)
     for (int place = 0; place < PACKETS - 1; place++)
         if (packet(&line, 2000, place, waits[place]) != 0)
             return 1;
-    if (absence(&line) != 0 || packet(&line, 2000, PACKETS - 1, 140) != 0 || absence(&line) != 0)
+    if (play_without_packet(&line) != 0 || packet(&line, 2000, PACKETS - 1, 140) != 0
+        || play_without_packet(&line) != 0)
         return 1;
     return trunk();
 }

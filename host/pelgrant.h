@@ -151,7 +151,7 @@ uint8_t pelgrant_signal_read(uint8_t buildout, const uint8_t *frame, size_t fram
 
 /* What to play where no packet came.
  * Lent: last, the samples last played, and noise, the host's, both at least 128; m_last of the record,
- *   the more bit of the last packet received.
+ *   the more bit of the last frame that was scheduled or refused with 17 or 20.
  * Back: the first 128 of out, copied from last if m_last is 1, else from noise, and answer[0] 128; or
  *   answer[0] 0 where last or noise is shorter than 128.
  * Refusals: 16 (answer below 1 or out below 128).

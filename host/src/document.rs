@@ -1,6 +1,6 @@
 //! Document 01, amended by request A2 of document 02, in plain Rust. It is written from the documents
-//! alone, as the yardstick of the proved library: what that answers is right if this answers the
-//! same, and it is as fast as this or not.
+//! alone, as the yardstick of the proved library: what the library answers is right if this answers the
+//! same, and its speed is measured against this.
 
 use std::ops::RangeInclusive;
 

@@ -15,7 +15,7 @@ use Rattle.endpoint.specs.Play.{refusal14, dueAt, playRefusal, afterSche
 use Rattle.endpoint.specs.Read.{heardOf, readAnswer}
 use Rattle.endpoint.specs.Arrival.{resetOf, frameDecision, arrivalBy, arrivalOf}
 use Rattle.endpoint.specs.Calls.{isReceived}
-use Rattle.endpoint.proofs.PlayLaws.{decided-number, decided-scheduled, decided-ranged, decided-near, decided-ahead, decided-apart, decided-left, decided-last, decided-readable, still, not-still, refused-stores, refused-keeps}
+use Rattle.endpoint.proofs.PlayLaws.{decided-number, decided-scheduled, decided-ranged, decided-near, decided-ahead, decided-apart, decided-left, decided-last, decided-readable, still-stores, stores-nothing, refused-stores, refused-keeps}
 
 -- an arrival put together of the decision, what is heard and the reset
 abbrev pub arrivedWith : Decision → Heard → ℕ → Arrived
@@ -68,14 +68,14 @@ module _ (e : Endpoint) (f : List ℕ) (clock : ℕ) where
       ≡ record { buildout = e .buildout; rseq = e .rseq; lastclock = e .lastclock; end = e .end; mlast = moreBit f; lastnoise = noise f }
   arrival-stored h =
       arrival-left (⊎-elim (λ p z. omega arith) (λ p z. omega arith) h)
-      ∙ ap (λ (d : Decision). d .after) (refused-stores e (arrivalOf e f clock .answer .refusal) (moreBit f) (noise f) (still (arrivalOf e f clock .answer .refusal) h))
+      ∙ ap (λ (d : Decision). d .after) (refused-stores e (arrivalOf e f clock .answer .refusal) (moreBit f) (noise f) (still-stores (arrivalOf e f clock .answer .refusal) h))
 
   -- every other refusal leaves the whole record
   pub arrival-kept : (arrivalOf e f clock .answer .refusal ≡ 0 → ⊥) → (arrivalOf e f clock .answer .refusal ≡ 17 → ⊥) → (arrivalOf e f clock .answer .refusal ≡ 20 → ⊥)
       → arrivalOf e f clock .after ≡ e
   arrival-kept h p q =
       arrival-left h
-      ∙ ap (λ (d : Decision). d .after) (refused-keeps e (arrivalOf e f clock .answer .refusal) (moreBit f) (noise f) (not-still (arrivalOf e f clock .answer .refusal) p q))
+      ∙ ap (λ (d : Decision). d .after) (refused-keeps e (arrivalOf e f clock .answer .refusal) (moreBit f) (noise f) (stores-nothing (arrivalOf e f clock .answer .refusal) p q))
 
   pub arrival-last : (arrivalOf e f clock .after .mlast ≡ cond (isReceived (arrivalOf e f clock .answer .refusal)) (moreBit f) (e .mlast))
       × (arrivalOf e f clock .after .lastnoise ≡ cond (isReceived (arrivalOf e f clock .answer .refusal)) (noise f) (e .lastnoise))

@@ -1,4 +1,4 @@
--- What an operator lives by, over any list of arrival calls on a record that began fresh.
+-- What an operator lives by, over any list of arrival calls on one record, and on one that began fresh.
 use Prim.Native.Nat.{ℕ, zero, suc, _+_, _≤_}
 use mathlib.Core.Path.{_≡_, refl, ap, subst, _∙_}
 use mathlib.Core.Bool.{Bool, true, false, cond}
@@ -57,7 +57,7 @@ unfolding lastOf
 set-last true field f before fs = refl
 set-last false field f before fs = refl
 
--- a field of the record that every packet received sets to a field of its own, and no other call
+-- a field of the record that each packet received sets from a field of its own, and that no other call changes
 calls-last : (kept : Endpoint → ℕ) (field : List ℕ → ℕ)
     → ((e : Endpoint) (c : Call) → kept (arrivalAt e c .after) ≡ cond (isReceived (arrivalAt e c .answer .refusal)) (field (c .frame)) (kept e))
     → (e : Endpoint) (cs : List Call) → kept (recordAfter e cs) ≡ lastOf field (kept e) (received e cs)

@@ -1,4 +1,4 @@
--- Fill answers an empty part where either slice is shorter than 128, and only then; else the one that M_LAST chooses.
+-- Fill answers an empty part where either slice is shorter than 128, and only then; otherwise the first 128 of the one that M_LAST chooses.
 use Prim.Native.Nat.{ℕ, _≤_, _<_}
 use mathlib.Core.Path.{_≡_}
 use mathlib.Core.Bool.{Bool, true, false, cond, _||_}

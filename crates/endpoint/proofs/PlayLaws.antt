@@ -1,4 +1,4 @@
--- What is known of a record in range and of a frame that is scheduled, and that such a frame keeps the record in range.
+-- What is known of a record in range, of a frame that is scheduled and of one that is refused, and that each keeps the record in range.
 use Prim.Native.Nat.{ℕ, zero, suc, _+_, _-_, _<_, _≤_, max}
 use mathlib.Core.Path.{_≡_, refl, sym, ap, ap₂, subst, _∙_}
 use mathlib.Core.Bool.{Bool, true, false, cond, _&&_}
@@ -83,11 +83,11 @@ either-low : (t : Bool) {x y limit : ℕ} → x ≤ limit → y ≤ limit → co
 either-low true p q = p
 either-low false p q = q
 
-pub still : (n : ℕ) → (n ≡ 17) ⊎ (n ≡ 20) → stillStores n ≡ true
-still n = ⊎-elim (λ e. rw e) (λ e. rw e)
+pub still-stores : (n : ℕ) → (n ≡ 17) ⊎ (n ≡ 20) → stillStores n ≡ true
+still-stores n = ⊎-elim (λ e. rw e) (λ e. rw e)
 
-pub not-still : (n : ℕ) → (n ≡ 17 → ⊥) → (n ≡ 20 → ⊥) → stillStores n ≡ false
-not-still n p q = simp (ne-eqb n 17 p, ne-eqb n 20 q)
+pub stores-nothing : (n : ℕ) → (n ≡ 17 → ⊥) → (n ≡ 20 → ⊥) → stillStores n ≡ false
+stores-nothing n p q = simp (ne-eqb n 17 p, ne-eqb n 20 q)
 
 -- what a refusal leaves of the record: by 17 and 20 the frame's more bit and noise are stored, by any other number nothing is
 module _ (e : Endpoint) (n more noise : ℕ) where

@@ -1,4 +1,4 @@
--- Document 01, "Play-out", over any list of arrival calls on one record: the record that they leave, when their frames are due, and which were received.
+-- Document 01, "Play-out", amended by request A2, over any list of arrival calls on one record: the record that they leave, when their frames are due, and which were received.
 use Prim.Native.Nat.{ℕ, _+_, _≤_}
 use mathlib.Core.Bool.{Bool, cond, _||_}
 use mathlib.Core.List.{List, [], _∷_}
@@ -33,7 +33,7 @@ unfoldable pub Apart : ℕ → List ℕ → Type 0
 Apart from [] = Unit {0}
 Apart from (due ∷ dues) = (from ≤ due) × Apart (due + 16) dues
 
--- a packet counts as received where it is scheduled, and by request A2 where it is late or due too far ahead
+-- a packet counts as received where it is scheduled, and by A2 where it is late or due too far ahead
 abbrev pub isReceived : ℕ → Bool
 isReceived n = eqb n 0 || stillStores n
 

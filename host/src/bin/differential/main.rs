@@ -274,7 +274,7 @@ impl Run {
     /// Counts an arrival, and goes on with the record where the call may have changed it.
     fn arrived(&mut self, call: Call, flat: Option<usize>, number: u8, record: &[u64], frame: &[u8], after: &[u64]) {
         self.arrivals.met(call, flat.unwrap_or(number.into()), record, frame);
-        if matches!(number, 0 | 17 | 20) {
+        if number == 0 || arrivals::stores(number.into()) {
             self.carried.copy_from_slice(&after[..6]);
         }
     }
