@@ -221,6 +221,10 @@ module _ (e : Endpoint) (clock : ℕ) where
           if-refused (playRefusal e clock given stamp seq) _ _ (λ z. h (p ∙ z))
           ∙ ap (λ (k : ℕ). refusedWith e k more noise) (sym p)
 
+      pub decided-with : (n : ℕ) (d : Decision) → n ≡ playRefusal e clock given stamp seq → (n ≡ 0 → ⊥)
+          → d ≡ refusedWith e n more noise → d ≡ decision e clock given stamp seq more noise
+      decided-with n d p h q = q ∙ sym (decided-refused n p h)
+
       -- whatever holds of a scheduled frame, and of every refusal, holds of the decision
       pub by-decision : (P : Decision → Type 0)
           → (playRefusal e clock given stamp seq ≡ 0

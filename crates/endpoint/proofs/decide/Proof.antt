@@ -1,7 +1,7 @@
 use mathlib.Core.Path.{_≡_, sym, _∙_}
 use Rattle.refusals.specs.Refusals.{_orElse_}
 use Rattle.endpoint.specs.Play.{refusal14, refusal18, playRefusal}
-use Rattle.endpoint.proofs.PlayLaws.{first-is, first-early, first-stands, last-is, last-stands, due-fits, decided-at, decided-refused}
+use Rattle.endpoint.proofs.PlayLaws.{first-is, first-early, first-stands, last-is, last-stands, due-fits, decided-at, decided-with}
 use Rattle.endpoint.proofs.decide.Statement.{statement}
 use Rattle.endpoint.proofs.decide.Tie as tie
 
@@ -43,7 +43,7 @@ returns : tie.Need-returns
 returns c =
     let a = c .before .before .before .before .before .before .args in
     let n = c .before .before .or-else2 .result in
-    c .refused .ensures ∙ sym (decided-refused (a .e) (a .clock) (a .given) (a .stamp) (a .seq) (a .more) (a .noise) n (first-stands (a .e) (a .clock) (a .given) (a .stamp) (a .seq) n (first (c .before .before)) (c .before .if1 .taken)) (c .before .if1 .taken))
+    decided-with (a .e) (a .clock) (a .given) (a .stamp) (a .seq) (a .more) (a .noise) n (c .refused .result) (first-stands (a .e) (a .clock) (a .given) (a .stamp) (a .seq) n (first (c .before .before)) (c .before .if1 .taken)) (c .before .if1 .taken) (c .refused .ensures)
 
 due-at-requires : tie.Need-due-at-requires
 due-at-requires c κs =
@@ -68,7 +68,7 @@ refused-requires-2 c κs = tt
 returns-2 : tie.Need-returns-2
 returns-2 c =
     let a = c .before .before .before .before .before .before .before .before .before .before .before .before .args in
-    c .refused2 .ensures ∙ sym (decided-refused (a .e) (a .clock) (a .given) (a .stamp) (a .seq) (a .more) (a .noise) (c .before .before .or-else3 .result) (whole (c .before .before)) (c .before .if2 .taken))
+    decided-with (a .e) (a .clock) (a .given) (a .stamp) (a .seq) (a .more) (a .noise) (c .before .before .or-else3 .result) (c .refused2 .result) (whole (c .before .before)) (c .before .if2 .taken) (c .refused2 .ensures)
 
 scheduled-requires : tie.Need-scheduled-requires
 scheduled-requires c κs =
