@@ -1,0 +1,105 @@
+use mathlib.Core.Path.{_≡_, refl, subst}
+use Prim.Native.Nat.{_≤_, _-_}
+use native.Mathlib.Omega.{arith}
+use borrow.Author.Needs.{needs}
+use lib.ListN.{length, length-set}
+use Rattle.blocks.proofs.PlaneLaws.{Done, mask-needs, cross-more, exchange-end}
+use Rattle.blocks.proofs.exchange.Statement.{statement}
+use Rattle.blocks.proofs.exchange.Tie as tie
+
+abbrev Inv-loop : tie.InvT-loop
+Inv-loop from d m to₀ i₀ to i = (i ≤ 64) × (length to ≡ 128) × Done from d to i
+
+abbrev μ-loop : tie.MeasureT-loop
+μ-loop from d m to₀ i₀ to i = 64 - i
+
+loop-holds : tie.Need-loop-holds Inv-loop μ-loop
+loop-holds c = (search needs, refl, λ q h l. absurd (omega arith))
+
+shared-slice-read-lower : tie.Need-shared-slice-read-lower Inv-loop μ-loop
+shared-slice-read-lower c = search needs
+
+add-lower : tie.Need-add-lower Inv-loop μ-loop
+add-lower c = search needs
+
+shared-slice-read-lower-2 : tie.Need-shared-slice-read-lower-2 Inv-loop μ-loop
+shared-slice-read-lower-2 c = search needs
+
+lower-requires : tie.Need-lower-requires Inv-loop μ-loop
+lower-requires c κs = mask-needs _ _ (c .before .before .before .before .before .pre .1)
+
+array-write-to : tie.Need-array-write-to Inv-loop μ-loop
+array-write-to c = search needs
+
+shared-slice-read-upper : tie.Need-shared-slice-read-upper Inv-loop μ-loop
+shared-slice-read-upper c = search needs
+
+add-upper : tie.Need-add-upper Inv-loop μ-loop
+add-upper c = search needs
+
+shared-slice-read-upper-2 : tie.Need-shared-slice-read-upper-2 Inv-loop μ-loop
+shared-slice-read-upper-2 c = search needs
+
+upper-requires : tie.Need-upper-requires Inv-loop μ-loop
+upper-requires c κs = mask-needs _ _ (c .before .before .before .before .before .before .before .before .pre .1)
+
+add-to : tie.Need-add-to Inv-loop μ-loop
+add-to c = search needs
+
+array-write-to-2 : tie.Need-array-write-to-2 Inv-loop μ-loop
+array-write-to-2 c = search needs
+
+add-i : tie.Need-add-i Inv-loop μ-loop
+add-i c = search needs
+
+loop-less : tie.Need-loop-less Inv-loop μ-loop
+loop-less c = search needs
+
+loop-again : tie.Need-loop-again Inv-loop μ-loop
+loop-again c =
+    let b = c .before .before .before .before .before .before .before .before .before in
+    let l = c .before .before .before .before .before .before .before .loop in
+    let lo = c .before .before .before .lower in (
+      omega arith,
+      simp length-set (l .inv .1),
+      cross-more (b .args .from .now) (l .to) (b .args .d) (b .args .m) (l .i) (lo .result) (c .upper .result) (b .pre .1) (omega arith) (l .inv .1) (lo .ensures) (c .upper .ensures) (l .inv .2),
+    )
+
+slice-aggregate-riffle-rows : tie.Need-slice-aggregate-riffle-rows Inv-loop μ-loop
+slice-aggregate-riffle-rows c = search needs
+
+riffle-rows-requires : tie.Need-riffle-rows-requires Inv-loop μ-loop
+riffle-rows-requires c κs = search needs
+
+returns : tie.Need-returns Inv-loop μ-loop
+returns c =
+    let b = c .before .before .before .before .before in
+    let l = c .before .before .before .loop in
+    let e : l .i ≡ 64 = omega arith in
+    let r = c .riffle-rows .ensures in
+    (exchange-end (b .args .from .now) (l .to) (c .riffle-rows .result) (b .args .d) (b .args .m) (b .pre .1) (subst (Done (b .args .from .now) (b .args .d) (l .to)) e (l .inv .2)) (r .0), r .1)
+
+pub exchange-spec : {M : Type 1} → statement M
+exchange-spec =
+    tie.close
+    (tie.spec
+    Inv-loop
+    μ-loop
+    loop-holds
+    shared-slice-read-lower
+    add-lower
+    shared-slice-read-lower-2
+    lower-requires
+    array-write-to
+    shared-slice-read-upper
+    add-upper
+    shared-slice-read-upper-2
+    upper-requires
+    add-to
+    array-write-to-2
+    add-i
+    loop-less
+    loop-again
+    slice-aggregate-riffle-rows
+    riffle-rows-requires
+    returns)
