@@ -2,7 +2,7 @@
 use mathlib.Core.Path.{_≡_, refl, sym, ap, ap₂, _∙_, subst}
 use mathlib.Core.Logic.{_⊎_, ⊎-elim}
 use mathlib.Core.Bool.{cond, true}
-use mathlib.Core.List.{List}
+use mathlib.Core.List.{List, _++_}
 use Prim.Native.Nat.{ℕ, _+_, _-_, _*_, _/_, _%_, _≤_, _<_}
 use native.Mathlib.Nat.{mod-lt, eq-zero-or-pos}
 use native.Mathlib.Omega.{arith}
@@ -209,10 +209,14 @@ turned-at xs ys t w j k hw hj hk =
     sym (place-is ys q (16 * w + j) k refl hk) ∙ t q (omega arith) ∙ ap₂ (λ (a b : ℕ). bitOf (getD xs a 0) b) m d
 
 -- a plane is a block
-pub plane-block : (xs ys : List ℕ) (w : ℕ) → Turned xs ys → length ys ≡ 128 → ((i : ℕ) → i < 128 → getD ys i 0 < 256) → w < 8 → take 16 (drop (16 * w) ys) ≡ block xs w
+plane-block : (xs ys : List ℕ) (w : ℕ) → Turned xs ys → length ys ≡ 128 → ((i : ℕ) → i < 128 → getD ys i 0 < 256) → w < 8 → take 16 (drop (16 * w) ys) ≡ block xs w
 unfolding block blockOctet
 plane-block xs ys w t l octets h =
     part-tab ys (16 * w) 16 (omega arith)
     ∙ tab-ext (λ j. getD ys (16 * w + j) 0) (blockOctet xs w) 16
     (λ j hj. bits-all 8 (getD ys (16 * w + j) 0) (gather xs w (8 * j) 8) (octets (16 * w + j) (omega arith)) (gather-lt xs w (8 * j) 8)
     (λ k hk. turned-at xs ys t w j k h hj hk ∙ sym (gather-bit xs w (8 * j) k 8 hk)))
+
+pub block-put : (xs ys part last : List ℕ) (w : ℕ) → Turned xs ys → length ys ≡ 128 → ((i : ℕ) → i < 128 → getD ys i 0 < 256) → w < 8
+    → last ≡ take 16 (drop (16 * w) ys) ++ drop 16 part → last ≡ block xs w ++ drop 16 part
+block-put xs ys part last w t l octets h e = e ∙ ap (λ (b : List ℕ). b ++ drop 16 part) (plane-block xs ys w t l octets h)

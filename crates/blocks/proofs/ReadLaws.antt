@@ -40,6 +40,9 @@ module _ (xs part : List ℕ) (at : ℕ) where
         rw (drop-cons xs (at + j) 0, set-at begun (getD xs (at + j) 0) (drop (suc (at + j)) xs) (getD part j 0) (at + j) length-begun, add-one j, e, take-suc part j 0)
         (sym (append-snoc begun (getD part j 0) (drop (suc (at + j)) xs)) ∙ rw (append-assoc (take at xs) (take j part) (getD part j 0 ∷ [])))
 
+pub row-put : (xs part lent last : List ℕ) (w : ℕ) → last ≡ rowTo xs lent (16 * w) 16 → lent ≡ part → last ≡ rowTo xs part (16 * w) 16
+row-put xs part lent last w e p = e ∙ ap (λ (l : List ℕ). rowTo xs l (16 * w) 16) p
+
 -- an octet after it: of the block in its row, as it was in the others
 module _ (xs part : List ℕ) (w : ℕ) (hx : 16 * w + 16 ≤ length xs) (hp : 16 ≤ length part) where
   abbrev front : List ℕ
@@ -93,7 +96,7 @@ sample-high v S (suc k) i h =
     let s = sample-high v S k i (omega arith) in
     let c : ℕ = bitOf (getD v (16 * k + i / 8) 0) (i % 8) in
     let e : S - k ≡ suc (S - suc k) = omega arith in
-    let f : S - 1 - k ≡ S - suc k = omega arith in
+    let f : weight S k ≡ S - suc k = omega arith in
     (s .0 * 2 + c, rw f (ap (λ (n : ℕ). n + c * 2 ^ (S - suc k)) (s .1 ∙ ap (λ (n : ℕ). s .0 * 2 ^ n) e) ∙ add-bit (s .0) c (S - suc k)))
 
 -- the next block's bit, and the others as they were

@@ -1,5 +1,5 @@
 -- Octets that change places: a riffle of 128 octets, a riffle of eight rows of sixteen, and where several riffles take each octet from. Assumes nothing.
-use mathlib.Core.Path.{_≡_, refl, sym, ap, _∙_}
+use mathlib.Core.Path.{_≡_, refl, sym, ap, ap₂, _∙_}
 use mathlib.Core.List.{List, [], _∷_, _++_, append-assoc, append-nil}
 use Prim.Native.Nat.{ℕ, zero, suc, _+_, _-_, _*_, _/_, _%_, _≤_, _<_}
 use native.Mathlib.Nat.{add-zero}
@@ -57,6 +57,15 @@ part-tab xs a n h =
     ext-getD 0 (take n (drop a xs)) (tab (λ i. getD xs (a + i) 0) n) (l ∙ sym (length-tab (λ i. getD xs (a + i) 0) n))
     (λ i k. let m : i < n = omega arith in
     getD-take n (drop a xs) i 0 m ∙ getD-drop a xs i 0 ∙ sym (getD-tab (λ i. getD xs (a + i) 0) n i 0 m))
+
+-- the sixteen octets from `at` on, and a copy of them at the front of another list
+pub sixteen : (xs : List ℕ) (at : ℕ) → take (at + 16 - at) (drop at xs) ≡ take 16 (drop at xs)
+sixteen xs at = let e : at + 16 - at ≡ 16 = omega arith in ap (λ (n : ℕ). take n (drop at xs)) e
+
+pub sixteen-copied : (xs part s last : List ℕ) (at : ℕ) → at + 16 ≤ length xs → s ≡ take (at + 16 - at) (drop at xs) → last ≡ s ++ drop (length s) part → last ≡ take 16 (drop at xs) ++ drop 16 part
+sixteen-copied xs part s last at h es el =
+    let e : s ≡ take 16 (drop at xs) = es ∙ sixteen xs at in
+    el ∙ ap₂ (λ (l : List ℕ) (n : ℕ). l ++ drop n part) e (ap length e ∙ part-length xs at 16 h)
 
 row-at : (row i : ℕ) → i < 16 → 16 * (row / 2 + row % 2 * 4) + i ≡ rowsRiffled (16 * row + i)
 row-at row i h =

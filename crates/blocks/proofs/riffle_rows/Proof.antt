@@ -1,12 +1,12 @@
-use mathlib.Core.Path.{_≡_, refl, ap, _∙_}
+use mathlib.Core.Path.{_≡_, refl, _∙_}
 use mathlib.Core.List.{_++_}
 use Prim.Native.Nat.{ℕ, _+_, _*_, _/_, _%_, _≤_, _-_}
 use native.Mathlib.Omega.{arith}
 use borrow.Author.Needs.{needs}
 use borrow.Rule.Slice.PartMut.{same-len-mid}
-use lib.ListN.{length, take, drop, replicate}
+use lib.ListN.{length, drop, replicate}
 use Rattle.octets.specs.Octets.{tab}
-use Rattle.blocks.proofs.RiffleLaws.{taken, rowsRiffled, taken-all, rows-more}
+use Rattle.blocks.proofs.RiffleLaws.{taken, rowsRiffled, taken-all, sixteen, rows-more}
 use Rattle.blocks.proofs.riffle_rows.Statement.{statement}
 use Rattle.blocks.proofs.riffle_rows.Tie as tie
 
@@ -67,13 +67,12 @@ loop-again c =
     let a = c .before .before .before .before .before .before .before .args in
     let l = c .before .before .before .before .before .loop in
     let q = c .before .copy in
-    let at : ℕ = 16 * (l .row / 2 + l .row % 2 * 4) in
-    let sixteen : at + 16 - at ≡ 16 = omega arith in (
+    let at : ℕ = 16 * (l .row / 2 + l .row % 2 * 4) in (
       omega arith,
       l .inv .1,
       same-len-mid (16 * l .row) (128 - 16 * l .row) (l .to) (q .last .1 .0) (q .kept .1 .0) ∙ l .inv .2,
       rows-more (a .from .now) _ (l .to) _ (q .last .1 .0) (l .row) (omega arith) (l .inv .2) (omega arith) (l .inv .3)
-          (ap (λ (n : ℕ). take n (drop at (a .from .now))) sixteen) (q .ensures),
+          (sixteen (a .from .now) at) (q .ensures),
     )
 
 returns : tie.Need-returns Inv-loop μ-loop
