@@ -8,6 +8,8 @@ use native.Mathlib.Nat.{mod-lt, eq-zero-or-pos}
 use native.Mathlib.Omega.{arith}
 use borrow.Author.Tests.{eq-eqb, ne-eqb, ltb-true}
 use lib.Dec.{lit<, eqb, ltb}
+use mir.Syntax.{w8}
+use mir.Val.{Fits}
 use lib.ListN.{length, getD, set, take, drop, length-set}
 use lib.Seq.{getD-set-same, getD-set-other}
 use Rattle.octets.specs.Octets.{tab}
@@ -209,14 +211,14 @@ turned-at xs ys t w j k hw hj hk =
     sym (place-is ys q (16 * w + j) k refl hk) ∙ t q (omega arith) ∙ ap₂ (λ (a b : ℕ). bitOf (getD xs a 0) b) m d
 
 -- a plane is a block
-plane-block : (xs ys : List ℕ) (w : ℕ) → Turned xs ys → length ys ≡ 128 → ((i : ℕ) → i < 128 → getD ys i 0 < 256) → w < 8 → take 16 (drop (16 * w) ys) ≡ block xs w
+plane-block : (xs ys : List ℕ) (w : ℕ) → Turned xs ys → length ys ≡ 128 → ((i : ℕ) → Fits w8 (getD ys i 0)) → w < 8 → take 16 (drop (16 * w) ys) ≡ block xs w
 unfolding block blockOctet
 plane-block xs ys w t l octets h =
     part-tab ys (16 * w) 16 (omega arith)
     ∙ tab-ext (λ j. getD ys (16 * w + j) 0) (blockOctet xs w) 16
-    (λ j hj. bits-all 8 (getD ys (16 * w + j) 0) (gather xs w (8 * j) 8) (octets (16 * w + j) (omega arith)) (gather-lt xs w (8 * j) 8)
+    (λ j hj. bits-all 8 (getD ys (16 * w + j) 0) (gather xs w (8 * j) 8) (octets (16 * w + j) .fits) (gather-lt xs w (8 * j) 8)
     (λ k hk. turned-at xs ys t w j k h hj hk ∙ sym (gather-bit xs w (8 * j) k 8 hk)))
 
-pub block-put : (xs ys part last : List ℕ) (w : ℕ) → Turned xs ys → length ys ≡ 128 → ((i : ℕ) → i < 128 → getD ys i 0 < 256) → w < 8
+pub block-put : (xs ys part last : List ℕ) (w : ℕ) → Turned xs ys → length ys ≡ 128 → ((i : ℕ) → Fits w8 (getD ys i 0)) → w < 8
     → last ≡ take 16 (drop (16 * w) ys) ++ drop 16 part → last ≡ block xs w ++ drop 16 part
 block-put xs ys part last w t l octets h e = e ∙ ap (λ (b : List ℕ). b ++ drop 16 part) (plane-block xs ys w t l octets h)

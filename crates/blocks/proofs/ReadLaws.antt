@@ -7,6 +7,8 @@ use native.Mathlib.Nat.{add-zero, add-mul, mul-assoc, mul-comm, pow-suc, zero-mu
 use native.Mathlib.Numerals.{add-one}
 use native.Mathlib.Omega.{arith}
 use lib.Pow.{pow-pos, pow-mono}
+use mir.Syntax.{w8}
+use mir.Val.{Fits}
 use lib.ListN.{length, getD, set, take, drop, length-append, length-drop, take-append-drop, List·getD-append, replicate, getD-replicate}
 use lib.Seq.{take-suc, drop-cons, set-at, append-snoc, getD-at, getD-take, getD-drop, getD-append-add, ext-getD, length-take-le}
 use Rattle.octets.specs.Octets.{tab}
@@ -173,7 +175,7 @@ module _ (v out part : List ℕ) (S k : ℕ) (h : k < S) (hS : S ≤ 8) (t : Tur
       ∙ t q hq ∙ ap (λ (x : ℕ). bitOf x (q / 128)) (sample-at v S k i (omega arith)) ∙ sym (ap (λ (x : ℕ). bitOf x (q / 128)) (sample-at v S (suc k) i (omega arith)) ∙ sample-other v S k i h (q / 128) other))
 
 -- at the end they are turned back, and a list of octets has nothing but its bits
-pub turned-back : (v out r : List ℕ) (S n : ℕ) → n ≤ S → S ≤ 8 → Turned (samples v S n) out → Turned r out → length r ≡ 128 → ((i : ℕ) → i < 128 → getD r i 0 < 256) → r ≡ samples v S n
+pub turned-back : (v out r : List ℕ) (S n : ℕ) → n ≤ S → S ≤ 8 → Turned (samples v S n) out → Turned r out → length r ≡ 128 → ((i : ℕ) → Fits w8 (getD r i 0)) → r ≡ samples v S n
 unfolding samples
 turned-back v out r S n h hS t u l octets =
     ext-getD 0 r (samples v S n) (l ∙ sym (length-tab (sample v S n) 128))
@@ -182,5 +184,5 @@ turned-back v out r S n h hS t u l octets =
     let same-bit : (w : ℕ) → w < 8 → bitOf (getD r i 0) w ≡ bitOf (getD (samples v S n) i 0) w =
     λ w hw. subst (λ (m : ℕ). bitOf (getD r m 0) w ≡ bitOf (getD (samples v S n) m 0) w) e
     (sym (turned-at r out u w (i / 8) (i % 8) hw (omega arith) (omega arith)) ∙ turned-at (samples v S n) out t w (i / 8) (i % 8) hw (omega arith) (omega arith)) in
-    bits-all 8 (getD r i 0) (getD (samples v S n) i 0) (octets i hi)
+    bits-all 8 (getD r i 0) (getD (samples v S n) i 0) (octets i .fits)
     (rw (sample-at v S n i hi) (omega (arith, sample-room v S n i h, pow-pos (S - n), pow-mono {i = S} {j = 8} hS))) same-bit)

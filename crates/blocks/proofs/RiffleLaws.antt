@@ -23,12 +23,9 @@ rowsRiffled i = 16 * (i / 32 + i / 16 % 2 * 4) + i % 16
 abbrev pub taken : (ℕ → ℕ) → List ℕ → ℕ → ℕ
 taken whence xs i = getD xs (whence i) 0
 
--- when all 128 are taken nothing is left of what stood there, and octets stay octets
-pub taken-all : (whence : ℕ → ℕ) (xs O to : List ℕ) → length O ≡ 128 → to ≡ tab (taken whence xs) 128 ++ drop 128 O → ((i : ℕ) → getD xs i 0 < 256)
-    → (to ≡ tab (taken whence xs) 128) × ((i : ℕ) → i < 128 → getD to i 0 < 256)
-taken-all whence xs O to l e h =
-    let r : to ≡ tab (taken whence xs) 128 = e ∙ rw (drop-of-length-le O {i = 128} (omega arith), append-nil) in
-    (r, λ i k. rw (r, getD-tab (taken whence xs) 128 i 0 k) (h (whence i)))
+-- when all 128 are taken nothing is left of what stood there
+pub taken-all : (f : ℕ → ℕ) (O : List ℕ) → length O ≡ 128 → tab f 128 ++ drop 128 O ≡ tab f 128
+taken-all f O l = rw (drop-of-length-le O {i = 128} (omega arith), append-nil)
 
 -- a turn of the loop that riffles
 pub riffle-more : (xs l : List ℕ) (i : ℕ) → 2 * i + 1 < length l → let f : ℕ → ℕ = taken riffled xs in

@@ -17,43 +17,43 @@ loop-holds : tie.Need-loop-holds Inv-loop μ-loop
 loop-holds c = (search needs, refl, λ q h l. absurd (omega arith))
 
 shared-slice-read-lower : tie.Need-shared-slice-read-lower Inv-loop μ-loop
-shared-slice-read-lower c = search needs
+shared-slice-read-lower c = omega arith
 
 add-lower : tie.Need-add-lower Inv-loop μ-loop
-add-lower c = search needs
+add-lower c = omega arith
 
 shared-slice-read-lower-2 : tie.Need-shared-slice-read-lower-2 Inv-loop μ-loop
-shared-slice-read-lower-2 c = search needs
+shared-slice-read-lower-2 c = omega arith
 
 lower-requires : tie.Need-lower-requires Inv-loop μ-loop
 lower-requires c κs = mask-needs _ _ (c .before .before .before .before .before .pre .1)
 
 array-write-to : tie.Need-array-write-to Inv-loop μ-loop
-array-write-to c = search needs
+array-write-to c = omega arith
 
 shared-slice-read-upper : tie.Need-shared-slice-read-upper Inv-loop μ-loop
-shared-slice-read-upper c = search needs
+shared-slice-read-upper c = omega arith
 
 add-upper : tie.Need-add-upper Inv-loop μ-loop
-add-upper c = search needs
+add-upper c = omega arith
 
 shared-slice-read-upper-2 : tie.Need-shared-slice-read-upper-2 Inv-loop μ-loop
-shared-slice-read-upper-2 c = search needs
+shared-slice-read-upper-2 c = omega arith
 
 upper-requires : tie.Need-upper-requires Inv-loop μ-loop
 upper-requires c κs = mask-needs _ _ (c .before .before .before .before .before .before .before .before .pre .1)
 
 add-to : tie.Need-add-to Inv-loop μ-loop
-add-to c = search needs
+add-to c = omega arith
 
 array-write-to-2 : tie.Need-array-write-to-2 Inv-loop μ-loop
-array-write-to-2 c = search needs
+array-write-to-2 c = omega arith
 
 add-i : tie.Need-add-i Inv-loop μ-loop
-add-i c = search needs
+add-i c = omega arith
 
 loop-less : tie.Need-loop-less Inv-loop μ-loop
-loop-less c = search needs
+loop-less c = omega arith
 
 loop-again : tie.Need-loop-again Inv-loop μ-loop
 loop-again c =
@@ -66,18 +66,17 @@ loop-again c =
     )
 
 slice-aggregate-riffle-rows : tie.Need-slice-aggregate-riffle-rows Inv-loop μ-loop
-slice-aggregate-riffle-rows c = search needs
+slice-aggregate-riffle-rows c = omega arith
 
 riffle-rows-requires : tie.Need-riffle-rows-requires Inv-loop μ-loop
-riffle-rows-requires c κs = search needs
+riffle-rows-requires c κs = omega arith
 
 returns : tie.Need-returns Inv-loop μ-loop
 returns c =
     let b = c .before .before .before .before .before in
     let l = c .before .before .before .loop in
     let e : l .i ≡ 64 = omega arith in
-    let r = c .riffle-rows .ensures in
-    (exchange-end (b .args .from .now) (l .to) (c .riffle-rows .result) (b .args .d) (b .args .m) (b .pre .1) (subst (Done (b .args .from .now) (b .args .d) (l .to)) e (l .inv .2)) (r .0), r .1)
+    exchange-end (b .args .from .now) (l .to) (c .riffle-rows .result) (b .args .d) (b .args .m) (b .pre .1) (subst (Done (b .args .from .now) (b .args .d) (l .to)) e (l .inv .2)) (c .riffle-rows .ensures)
 
 pub exchange-spec : {M : Type 1} → statement M
 exchange-spec =

@@ -48,12 +48,10 @@ returns c =
     let e3 = e .exchange3 in
     let r1 = c .before .before .before .before .riffle in
     let r2 = c .before .before .riffle2 in
-    let r3 = c .riffle3 in (
-      samples-of planes (e3 .result) (r3 .result)
-          (three-exchanges planes (e1 .result) (e2 .result) (e3 .result) (e1 .ensures .0) (e2 .ensures .0) (e3 .ensures .0))
-          (three-riffles (e3 .result) (r1 .result) (r2 .result) (r3 .result) (r1 .ensures .0) (r2 .ensures .0) (r3 .ensures .0)),
-      r3 .ensures .1,
-    )
+    let r3 = c .riffle3 in
+    samples-of planes (e3 .result) (r3 .result)
+    (three-exchanges planes (e1 .result) (e2 .result) (e3 .result) (e1 .ensures) (e2 .ensures) (e3 .ensures))
+    (three-riffles (e3 .result) (r1 .result) (r2 .result) (r3 .result) (r1 .ensures) (r2 .ensures) (r3 .ensures))
 
 pub from-planes-spec : {M : Type 1} → statement M
 from-planes-spec =

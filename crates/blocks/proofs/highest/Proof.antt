@@ -2,7 +2,6 @@ use mathlib.Core.Path.{_≡_, sym, _∙_}
 use Prim.Native.Nat.{ℕ, _*_, _-_, _^_, _%_, _<_}
 use native.Mathlib.Omega.{arith}
 use native.Mathlib.Nat.{one-mul, lt-of-lt-of-le}
-use borrow.Author.Needs.{needs}
 use borrow.Author.Tests.{le-leb, lt-ltb}
 use lib.Dec.{lit<}
 use lib.Pow.{shl-exact, pow-pos, pow-mono}
@@ -11,10 +10,10 @@ use Rattle.blocks.proofs.highest.Statement.{statement}
 use Rattle.blocks.proofs.highest.Tie as tie
 
 cast-result : tie.Need-cast-result
-cast-result c = search needs
+cast-result c = omega arith
 
 shl-result : tie.Need-shl-result
-shl-result c = search needs
+shl-result c = omega arith
 
 shifted : (s : ℕ) → s < 8 → 1 * 2 ^ s % 2 ^ 8 ≡ 2 ^ s
 shifted s h = shl-exact 1 s 8 (lit< tt) (omega arith) ∙ one-mul (2 ^ s)

@@ -1,12 +1,11 @@
-use borrow.Author.Needs.{needs}
 use Rattle.blocks.proofs.refusal_11.Statement.{statement}
 use Rattle.blocks.proofs.refusal_11.Tie as tie
 
 samples-fit-requires : tie.Need-samples-fit-requires
-samples-fit-requires c κs = search needs
+samples-fit-requires c κs = tt
 
 refuse-requires : tie.Need-refuse-requires
-refuse-requires c κs = search needs
+refuse-requires c κs = tt
 
 returns : tie.Need-returns
 returns c = cc

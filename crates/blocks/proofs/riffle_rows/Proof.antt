@@ -1,4 +1,4 @@
-use mathlib.Core.Path.{_≡_, refl, _∙_}
+use mathlib.Core.Path.{_≡_, refl, ap, _∙_}
 use mathlib.Core.List.{_++_}
 use Prim.Native.Nat.{ℕ, _+_, _*_, _/_, _%_, _≤_, _-_}
 use native.Mathlib.Omega.{arith}
@@ -21,46 +21,46 @@ unfolding tab
 loop-holds c = (search needs, refl, refl, refl)
 
 mul-at : tie.Need-mul-at Inv-loop μ-loop
-mul-at c = search needs
+mul-at c = omega arith
 
 add-at : tie.Need-add-at Inv-loop μ-loop
-add-at c = search needs
+add-at c = omega arith
 
 mul-at-2 : tie.Need-mul-at-2 Inv-loop μ-loop
-mul-at-2 c = search needs
+mul-at-2 c = omega arith
 
 add-copy : tie.Need-add-copy Inv-loop μ-loop
-add-copy c = search needs
+add-copy c = omega arith
 
 sub-copy : tie.Need-sub-copy Inv-loop μ-loop
-sub-copy c = search needs
+sub-copy c = omega arith
 
 part-copy-start : tie.Need-part-copy-start Inv-loop μ-loop
-part-copy-start c = search needs
+part-copy-start c = omega arith
 
 part-copy-end : tie.Need-part-copy-end Inv-loop μ-loop
-part-copy-end c = search needs
+part-copy-end c = omega arith
 
 mul-to : tie.Need-mul-to Inv-loop μ-loop
-mul-to c = search needs
+mul-to c = omega arith
 
 sub-copy-2 : tie.Need-sub-copy-2 Inv-loop μ-loop
-sub-copy-2 c = search needs
+sub-copy-2 c = omega arith
 
 part-to-start : tie.Need-part-to-start Inv-loop μ-loop
-part-to-start c = search needs
+part-to-start c = omega arith
 
 part-to-end : tie.Need-part-to-end Inv-loop μ-loop
-part-to-end c = search needs
+part-to-end c = omega arith
 
 copy-requires : tie.Need-copy-requires Inv-loop μ-loop
-copy-requires c κs = search needs
+copy-requires c κs = omega arith
 
 add-row : tie.Need-add-row Inv-loop μ-loop
-add-row c = search needs
+add-row c = omega arith
 
 loop-less : tie.Need-loop-less Inv-loop μ-loop
-loop-less c = search needs
+loop-less c = omega arith
 
 loop-again : tie.Need-loop-again Inv-loop μ-loop
 loop-again c =
@@ -80,7 +80,7 @@ returns c =
     let a = c .before .before .before .args in
     let l = c .before .loop in
     let e : l .row ≡ 8 = omega arith in
-    taken-all rowsRiffled (a .from .now) (replicate 128 0) (l .to) refl (rw e at (l .inv .3)) (λ k. omega (arith, c .before .before .shared-slice-known .given k))
+    l .inv .3 ∙ ap (λ (n : ℕ). tab (taken rowsRiffled (a .from .now)) (16 * n) ++ drop (16 * n) (replicate 128 0)) e ∙ taken-all (taken rowsRiffled (a .from .now)) (replicate 128 0) refl
 
 pub riffle-rows-spec : {M : Type 1} → statement M
 riffle-rows-spec =

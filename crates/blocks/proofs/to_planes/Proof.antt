@@ -55,12 +55,10 @@ returns c =
     let r4 = r .riffle4 in
     let e1 = c .before .before .before .before .exchange in
     let e2 = c .before .before .exchange2 in
-    let e3 = c .exchange3 in (
-      planes-of samples (r4 .result) (e3 .result)
-          (four-riffles samples (r1 .result) (r2 .result) (r3 .result) (r1 .ensures .0) (r2 .ensures .0) (r3 .ensures .0) (r4 .result) (r4 .ensures .0))
-          (three-exchanges (r4 .result) (e1 .result) (e2 .result) (e3 .result) (e1 .ensures .0) (e2 .ensures .0) (e3 .ensures .0)),
-      e3 .ensures .1,
-    )
+    let e3 = c .exchange3 in
+    planes-of samples (r4 .result) (e3 .result)
+    (four-riffles samples (r1 .result) (r2 .result) (r3 .result) (r1 .ensures) (r2 .ensures) (r3 .ensures) (r4 .result) (r4 .ensures))
+    (three-exchanges (r4 .result) (e1 .result) (e2 .result) (e3 .result) (e1 .ensures) (e2 .ensures) (e3 .ensures))
 
 pub to-planes-spec : {M : Type 1} → statement M
 to-planes-spec =
