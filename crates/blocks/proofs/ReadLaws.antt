@@ -3,9 +3,10 @@ use mathlib.Core.Path.{_≡_, refl, sym, ap, ap₂, _∙_, subst}
 use mathlib.Core.Logic.{_≢_, ⊎-elim}
 use mathlib.Core.List.{List, [], _∷_, _++_, append-assoc, append-nil}
 use Prim.Native.Nat.{ℕ, zero, suc, _+_, _-_, _*_, _/_, _%_, _^_, _≤_, _<_}
-use native.Mathlib.Nat.{add-zero, add-mul, mul-assoc, mul-comm, pow-suc, zero-mul, div-one, zero-div, le-of-lt, eq-zero-or-pos}
+use native.Mathlib.Nat.{add-zero, add-mul, mul-assoc, mul-comm, pow-suc, zero-mul, div-one, zero-div, le-of-lt, mod-lt, eq-zero-or-pos}
 use native.Mathlib.Numerals.{add-one}
 use native.Mathlib.Omega.{arith}
+use lib.Dec.{lit<}
 use lib.Pow.{pow-pos, pow-mono}
 use mir.Syntax.{w8}
 use mir.Val.{Fits}
@@ -16,7 +17,7 @@ use Rattle.octets.proofs.TabLaws.{getD-tab, length-tab}
 use Rattle.blocks.specs.Blocks.{bitOf, weight, sample, samples}
 use Rattle.blocks.proofs.BitLaws.{bit-lt, bit-up, bit-down, bit-below, bits-all}
 use Rattle.blocks.proofs.BlocksLaws.{sample-room}
-use Rattle.blocks.proofs.PlaneLaws.{Turned, turned-at}
+use Rattle.blocks.proofs.PlaneLaws.{bitAt, by-cases, Turned, turned-at}
 
 -- a loop that adds the octets of a block to a row of zeros: before the first, the octet that it reads next, and after a turn
 module _ (xs part : List ℕ) (at : ℕ) where
@@ -138,9 +139,6 @@ module _ (v : List ℕ) (S k i : ℕ) (h : k < S) where
   sample-other p n =
       ap (λ (n : ℕ). bitOf n p) then ∙ added-other z bit (weight S k) p (bit-lt (getD v (16 * k + i / 8) 0) (i % 8)) n ∙ sym (ap (λ (n : ℕ). bitOf n p) so-far)
 
-by-cases : {A : Type 0} (x y : ℕ) → (x ≡ y → A) → (x ≢ y → A) → A
-by-cases x y own other = ⊎-elim (λ z. own (omega arith)) (λ g. other (λ e. omega arith)) (eq-zero-or-pos (x - y + (y - x)))
-
 -- ---- the planes are always the samples so far, turned over
 
 zero-bit : (p : ℕ) → bitOf 0 p ≡ 0
@@ -148,31 +146,32 @@ zero-bit p = rw zero-div
 
 pub turned-none : (v : List ℕ) (S : ℕ) → Turned (samples v S 0) (replicate 128 0)
 unfolding samples sample tab
-turned-none v S q h =
-    let none : (n : ℕ) → n < 128 → getD {A = ℕ} (replicate 128 0) n 0 ≡ 0 = λ n l. getD-replicate {A = ℕ} 128 n 0 0 l in
-    ap₂ bitOf (none (q / 8) (omega arith)) refl ∙ zero-bit (q % 8) ∙ sym (ap₂ bitOf (none (q % 128) (omega arith)) refl ∙ zero-bit (q / 128))
+turned-none v S n p hn hp =
+    let none : (m : ℕ) → m < 128 → getD {A = ℕ} (replicate 128 0) m 0 ≡ 0 = λ m l. getD-replicate {A = ℕ} 128 m 0 0 l in
+    ap₂ bitOf (none n hn) refl ∙ zero-bit p ∙ sym (ap₂ bitOf (none (8 * (n % 16) + p) (omega arith)) refl ∙ zero-bit (n / 16))
 
 sample-at : (v : List ℕ) (S n i : ℕ) → i < 128 → getD (samples v S n) i 0 ≡ sample v S n i
 unfolding samples
 sample-at v S n i h = getD-tab (sample v S n) 128 i 0 h
 
-module _ (v out part : List ℕ) (S k : ℕ) (h : k < S) (hS : S ≤ 8) (t : Turned (samples v S k) out) (l : length out ≡ 128) (hp : 16 ≤ length part)
+module _ (v out part : List ℕ) (S k : ℕ) (h : k < S) (hS : S ≤ 8) (t : Turned (samples v S k) out) (l : length out ≡ 128) (hp' : 16 ≤ length part)
     (same : (j : ℕ) → j < 16 → getD part j 0 ≡ getD v (16 * k + j) 0) where
   pub turned-more : Turned (samples v S (suc k)) (rowTo out part (16 * weight S k) 16)
-  turned-more q hq =
+  turned-more n p hn hp =
       let w : ℕ = weight S k in
-      let i : ℕ = q % 128 in
-      let j : ℕ = q / 8 % 16 in
-      let e : q / 8 ≡ 16 * (q / 128) + j = omega arith in
-      let ej : i / 8 ≡ j = omega arith in
-      let ek : i % 8 ≡ q % 8 = omega arith in
-      ap (λ (n : ℕ). bitOf (getD (rowTo out part (16 * w) 16) n 0) (q % 8)) e
-      ∙ by-cases (q / 128) w
-      (λ own. ap (λ (n : ℕ). bitOf (getD (rowTo out part (16 * w) 16) (16 * n + j) 0) (q % 8)) own
-      ∙ ap (λ (x : ℕ). bitOf x (q % 8)) (row-own out part w (omega arith) hp j (omega arith) ∙ same j (omega arith))
-      ∙ sym (ap₂ bitOf (sample-at v S (suc k) i (omega arith)) own ∙ sample-own v S k i h ∙ ap₂ (λ (a b : ℕ). bitOf (getD v (16 * k + a) 0) b) ej ek))
-      (λ other. ap (λ (x : ℕ). bitOf x (q % 8)) (row-other out part w (omega arith) hp (q / 128) j (omega arith) other ∙ ap (λ (n : ℕ). getD out n 0) (sym e))
-      ∙ t q hq ∙ ap (λ (x : ℕ). bitOf x (q / 128)) (sample-at v S k i (omega arith)) ∙ sym (ap (λ (x : ℕ). bitOf x (q / 128)) (sample-at v S (suc k) i (omega arith)) ∙ sample-other v S k i h (q / 128) other))
+      let j : ℕ = n % 16 in
+      let i : ℕ = 8 * j + p in
+      let hj : j < 16 = mod-lt n (lit< tt) in
+      let whole : n ≡ 16 * (n / 16) + j = omega arith in
+      let lane : i / 8 ≡ j = omega arith in
+      let bit : i % 8 ≡ p = omega arith in
+      ap (λ (m : ℕ). bitAt (rowTo out part (16 * w) 16) m p) whole
+      ∙ by-cases (n / 16) w
+      (λ own. ap (λ (v : ℕ). bitAt (rowTo out part (16 * w) 16) (16 * v + j) p) own
+      ∙ ap (λ (x : ℕ). bitOf x p) (row-own out part w (omega arith) hp' j hj ∙ same j hj)
+      ∙ sym (ap₂ bitOf (sample-at v S (suc k) i (omega arith)) own ∙ sample-own v S k i h ∙ ap₂ (λ (a b : ℕ). bitOf (getD v (16 * k + a) 0) b) lane bit))
+      (λ other. ap (λ (x : ℕ). bitOf x p) (row-other out part w (omega arith) hp' (n / 16) j hj other ∙ ap (λ (m : ℕ). getD out m 0) (sym whole))
+      ∙ t n p hn hp ∙ ap (λ (x : ℕ). bitOf x (n / 16)) (sample-at v S k i (omega arith)) ∙ sym (ap (λ (x : ℕ). bitOf x (n / 16)) (sample-at v S (suc k) i (omega arith)) ∙ sample-other v S k i h (n / 16) other))
 
 -- at the end they are turned back, and a list of octets has nothing but its bits
 pub turned-back : (v out r : List ℕ) (S n : ℕ) → n ≤ S → S ≤ 8 → Turned (samples v S n) out → Turned r out → length r ≡ 128 → ((i : ℕ) → Fits w8 (getD r i 0)) → r ≡ samples v S n

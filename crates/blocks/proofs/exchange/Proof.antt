@@ -14,7 +14,7 @@ abbrev μ-loop : tie.MeasureT-loop
 μ-loop from d m to₀ i₀ to i = 64 - i
 
 loop-holds : tie.Need-loop-holds Inv-loop μ-loop
-loop-holds c = (search needs, refl, λ q h l. absurd (omega arith))
+loop-holds c = (search needs, refl, λ n p hn hp l. absurd (omega arith))
 
 shared-slice-read-lower : tie.Need-shared-slice-read-lower Inv-loop μ-loop
 shared-slice-read-lower c = omega arith
@@ -62,7 +62,7 @@ loop-again c =
     let lo = c .before .before .before .lower in (
       omega arith,
       simp length-set (l .inv .1),
-      cross-more (b .args .from .now) (l .to) (b .args .d) (b .args .m) (l .i) (lo .result) (c .upper .result) (b .pre .1) (omega arith) (l .inv .1) (lo .ensures) (c .upper .ensures) (l .inv .2),
+      cross-more (b .args .from .now) (l .to) (b .args .d) (l .i) (lo .result) (c .upper .result) (omega arith) (l .inv .1) (lo .ensures) (c .upper .ensures) (l .inv .2),
     )
 
 slice-aggregate-riffle-rows : tie.Need-slice-aggregate-riffle-rows Inv-loop μ-loop
@@ -76,7 +76,7 @@ returns c =
     let b = c .before .before .before .before .before in
     let l = c .before .before .before .loop in
     let e : l .i ≡ 64 = omega arith in
-    exchange-end (b .args .from .now) (l .to) (c .riffle-rows .result) (b .args .d) (b .args .m) (b .pre .1) (subst (Done (b .args .from .now) (b .args .d) (l .to)) e (l .inv .2)) (c .riffle-rows .ensures)
+    exchange-end (b .args .from .now) (l .to) (c .riffle-rows .result) (b .args .d) (subst (Done (b .args .from .now) (b .args .d) (l .to)) e (l .inv .2)) (c .riffle-rows .ensures)
 
 pub exchange-spec : {M : Type 1} → statement M
 exchange-spec =
