@@ -16,14 +16,14 @@ abbrev μ-loop : tie.MeasureT-loop
 loop-holds : tie.Need-loop-holds Inv-loop μ-loop
 loop-holds c = (search needs, refl, λ n p hn hp l. absurd (omega arith))
 
-shared-slice-read-lower : tie.Need-shared-slice-read-lower Inv-loop μ-loop
-shared-slice-read-lower c = omega arith
+shared-slice-read-a : tie.Need-shared-slice-read-a Inv-loop μ-loop
+shared-slice-read-a c = omega arith
 
-add-lower : tie.Need-add-lower Inv-loop μ-loop
-add-lower c = omega arith
+add-b : tie.Need-add-b Inv-loop μ-loop
+add-b c = omega arith
 
-shared-slice-read-lower-2 : tie.Need-shared-slice-read-lower-2 Inv-loop μ-loop
-shared-slice-read-lower-2 c = omega arith
+shared-slice-read-b : tie.Need-shared-slice-read-b Inv-loop μ-loop
+shared-slice-read-b c = omega arith
 
 lower-requires : tie.Need-lower-requires Inv-loop μ-loop
 lower-requires c κs = mask-needs _ _ (c .before .before .before .before .before .pre .1)
@@ -31,17 +31,8 @@ lower-requires c κs = mask-needs _ _ (c .before .before .before .before .before
 array-write-to : tie.Need-array-write-to Inv-loop μ-loop
 array-write-to c = omega arith
 
-shared-slice-read-upper : tie.Need-shared-slice-read-upper Inv-loop μ-loop
-shared-slice-read-upper c = omega arith
-
-add-upper : tie.Need-add-upper Inv-loop μ-loop
-add-upper c = omega arith
-
-shared-slice-read-upper-2 : tie.Need-shared-slice-read-upper-2 Inv-loop μ-loop
-shared-slice-read-upper-2 c = omega arith
-
 upper-requires : tie.Need-upper-requires Inv-loop μ-loop
-upper-requires c κs = mask-needs _ _ (c .before .before .before .before .before .before .before .before .pre .1)
+upper-requires c κs = mask-needs _ _ (c .before .before .before .before .before .before .pre .1)
 
 add-to : tie.Need-add-to Inv-loop μ-loop
 add-to c = omega arith
@@ -57,9 +48,9 @@ loop-less c = omega arith
 
 loop-again : tie.Need-loop-again Inv-loop μ-loop
 loop-again c =
-    let b = c .before .before .before .before .before .before .before .before .before in
-    let l = c .before .before .before .before .before .before .before .loop in
-    let lo = c .before .before .before .lower in (
+    let b = c .before .before .before .before .before .before .before in
+    let l = c .before .before .before .before .before .loop in
+    let lo = c .before .lower in (
       omega arith,
       simp length-set (l .inv .1),
       cross-more (b .args .from .now) (l .to) (b .args .d) (l .i) (lo .result) (c .upper .result) (omega arith) (l .inv .1) (lo .ensures) (c .upper .ensures) (l .inv .2),
@@ -85,14 +76,11 @@ exchange-spec =
     Inv-loop
     μ-loop
     loop-holds
-    shared-slice-read-lower
-    add-lower
-    shared-slice-read-lower-2
+    shared-slice-read-a
+    add-b
+    shared-slice-read-b
     lower-requires
     array-write-to
-    shared-slice-read-upper
-    add-upper
-    shared-slice-read-upper-2
     upper-requires
     add-to
     array-write-to-2
