@@ -79,6 +79,9 @@ xor-twice x y = sym (xor-assoc x x y) ∙ rw xor-self (xor-zero-l y)
 abbrev pub Mask : ℕ → ℕ → Type 0
 Mask d m = (p : ℕ) → p < 8 → bitOf m p ≡ 1 - p / d % 2
 
+pub odd-is-one : (n : ℕ) → 0 < n % 2 → n % 2 ≡ 1
+odd-is-one n h = omega (arith, mod-lt n {m = 2} (lit< tt))
+
 -- what is d further is odd where this is even
 next-odd : (d e : ℕ) → 0 < d → (d + e) / d % 2 ≡ 1 - e / d % 2
 next-odd d e h =
@@ -89,15 +92,12 @@ module _ (a b d m p : ℕ) (hd : 0 < d) (on : Mask d m) (hp : p < 8) where
   abbrev t : ℕ
   t = unlikeOf a b d m
 
-  odd : 0 < p / d % 2 → p / d % 2 ≡ 1
-  odd h = omega (arith, mod-lt (p / d) {m = 2} (lit< tt))
-
   pub upper-bit : bitOf (bitXor b t) p ≡ cond (eqb (p / d % 2) 0) (bitOf a (p + d)) (bitOf b p)
   upper-bit =
       ⊎-elim
       (λ z. let s : p + d ≡ d + p = omega arith in
       rw (eq-eqb (p / d % 2) 0 z, bit-xor b t p, unlike-on a b d m p (on p hp ∙ rw z), s, xor-comm (bitOf a (d + p)) (bitOf b p)) (xor-twice (bitOf b p) (bitOf a (d + p))))
-      (λ g. rw (ne-eqb (p / d % 2) 0 (λ e. omega arith), bit-xor b t p, unlike-off a b d m p (on p hp ∙ rw (odd g))) (xor-zero-r (bitOf b p)))
+      (λ g. rw (ne-eqb (p / d % 2) 0 (λ e. omega arith), bit-xor b t p, unlike-off a b d m p (on p hp ∙ rw (odd-is-one (p / d) g))) (xor-zero-r (bitOf b p)))
       (eq-zero-or-pos (p / d % 2))
 
   -- what comes up to p: nothing below d, and from d on the bit that is d below
@@ -129,5 +129,5 @@ module _ (a b d m p : ℕ) (hd : 0 < d) (on : Mask d m) (hp : p < 8) where
   lower-bit =
       ⊎-elim
       (λ z. rw (eq-eqb (p / d % 2) 0 z, bit-xor a up p, up-even z) (xor-zero-r (bitOf a p)))
-      (λ g. rw (ne-eqb (p / d % 2) 0 (λ e. omega arith), bit-xor a up p, up-odd (odd g)) (xor-twice (bitOf a p) (bitOf b (p - d))))
+      (λ g. rw (ne-eqb (p / d % 2) 0 (λ e. omega arith), bit-xor a up p, up-odd (odd-is-one (p / d) g)) (xor-twice (bitOf a p) (bitOf b (p - d))))
       (eq-zero-or-pos (p / d % 2))

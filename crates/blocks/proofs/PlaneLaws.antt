@@ -16,7 +16,7 @@ use Rattle.octets.specs.Octets.{tab}
 use Rattle.octets.proofs.BoolLaws.{and-true}
 use Rattle.octets.proofs.TabLaws.{agree, getD-tab, tab-ext}
 use Rattle.blocks.specs.Blocks.{bitOf, gather, blockOctet, block}
-use Rattle.blocks.proofs.BitLaws.{Mask, bits-all}
+use Rattle.blocks.proofs.BitLaws.{Mask, odd-is-one, bits-all}
 use Rattle.blocks.proofs.RiffleLaws.{taken, rowsRiffled, part-tab}
 use Rattle.blocks.proofs.BlocksLaws.{gather-lt, gather-bit}
 
@@ -24,20 +24,21 @@ use Rattle.blocks.proofs.BlocksLaws.{gather-lt, gather-bit}
 abbrev pub bitAt : List ℕ → ℕ → ℕ → ℕ
 bitAt xs n p = bitOf (getD xs n 0) p
 
+-- two numbers are one or are not
 pub by-cases : {A : Type 0} (x y : ℕ) → (x ≡ y → A) → (x ≢ y → A) → A
 by-cases x y own other = ⊎-elim (λ z. own (omega arith)) (λ g. other (λ e. omega arith)) (eq-zero-or-pos (x - y + (y - x)))
 
--- neither octet i of a half nor one that was done before
-still : (n i : ℕ) → n < 128 → i < 64 → n ≢ 64 + i → n ≢ i → n % 64 < i + 1 → n % 64 < i
-still n i hn hi above other h = ⊎-elim (λ z. absurd (⊎-elim (λ l. other (omega arith)) (λ g. above (omega arith)) (eq-zero-or-pos (n / 64)))) (λ g. omega arith) (eq-zero-or-pos (i - n % 64))
+-- an octet that is done after this turn and is octet i of neither half was done before it
+done-before : (n i : ℕ) → n < 128 → i < 64 → n ≢ 64 + i → n ≢ i → n % 64 < i + 1 → n % 64 < i
+done-before n i hn hi above other h = ⊎-elim (λ z. absurd (⊎-elim (λ l. other (omega arith)) (λ g. above (omega arith)) (eq-zero-or-pos (n / 64)))) (λ g. omega arith) (eq-zero-or-pos (i - n % 64))
 
--- ---- the three masks
+-- ---- how far bits move, and the mask of those that stay
 
-abbrev pub Three : ℕ → ℕ → Type 0
-Three d m = ((d ≡ 1) × (m ≡ 85)) ⊎ (((d ≡ 2) × (m ≡ 51)) ⊎ ((d ≡ 4) × (m ≡ 15)))
+abbrev pub StepAndMask : ℕ → ℕ → Type 0
+StepAndMask d m = ((d ≡ 1) × (m ≡ 85)) ⊎ (((d ≡ 2) × (m ≡ 51)) ⊎ ((d ≡ 4) × (m ≡ 15)))
 
 -- what a function that exchanges two octets' bits asks of d and m
-pub mask-needs : (d m : ℕ) → Three d m → (0 < d) × (d < 8) × Mask d m
+pub mask-needs : (d m : ℕ) → StepAndMask d m → (0 < d) × (d < 8) × Mask d m
 unfolding tab
 mask-needs d m t =
     let at : (e n : ℕ) → (0 < e) × (e < 8) × Mask e n → (d ≡ e) × (m ≡ n) → (0 < d) × (d < 8) × Mask d m =
@@ -69,21 +70,18 @@ module _ (xs : List ℕ) (d i p v : ℕ) (hi : i < 64) where
   crossed-is : (n x y o b : ℕ) → p / d % 2 ≡ x → n / 64 ≡ y → n % 64 ≡ i → 64 * x + i ≡ o → p + d * y - d * x ≡ b → bitAt xs (crossedOctet d n p) (crossedBit d n p) ≡ bitAt xs o b
   crossed-is n x y o b ex ey ei eo eb = rw (ex, ey, ei) (ap₂ (bitAt xs) eo eb)
 
-  odd : 0 < p / d % 2 → p / d % 2 ≡ 1
-  odd h = omega (arith, mod-lt (p / d) {m = 2} (lit< tt))
-
   from-lower : bitOf v p ≡ cond (eqb (p / d % 2) 0) (bitAt xs i p) (bitAt xs (64 + i) (p - d)) → bitOf v p ≡ bitAt xs (crossedOctet d i p) (crossedBit d i p)
   from-lower h =
       ⊎-elim
       (λ z. h ∙ rw (eq-eqb (p / d % 2) 0 z) (sym (crossed-is i 0 0 i p z (omega arith) (omega arith) (omega arith) (omega arith))))
-      (λ g. h ∙ rw (ne-eqb (p / d % 2) 0 (λ n. omega arith)) (sym (crossed-is i 1 0 (64 + i) (p - d) (odd g) (omega arith) (omega arith) (omega arith) (omega arith))))
+      (λ g. h ∙ rw (ne-eqb (p / d % 2) 0 (λ n. omega arith)) (sym (crossed-is i 1 0 (64 + i) (p - d) (odd-is-one (p / d) g) (omega arith) (omega arith) (omega arith) (omega arith))))
       (eq-zero-or-pos (p / d % 2))
 
   from-upper : bitOf v p ≡ cond (eqb (p / d % 2) 0) (bitAt xs i (p + d)) (bitAt xs (64 + i) p) → bitOf v p ≡ bitAt xs (crossedOctet d (64 + i) p) (crossedBit d (64 + i) p)
   from-upper h =
       ⊎-elim
       (λ z. h ∙ rw (eq-eqb (p / d % 2) 0 z) (sym (crossed-is (64 + i) 0 1 i (p + d) z (omega arith) (omega arith) (omega arith) (omega arith))))
-      (λ g. h ∙ rw (ne-eqb (p / d % 2) 0 (λ n. omega arith)) (sym (crossed-is (64 + i) 1 1 (64 + i) p (odd g) (omega arith) (omega arith) (omega arith) (omega arith))))
+      (λ g. h ∙ rw (ne-eqb (p / d % 2) 0 (λ n. omega arith)) (sym (crossed-is (64 + i) 1 1 (64 + i) p (odd-is-one (p / d) g) (omega arith) (omega arith) (omega arith) (omega arith))))
       (eq-zero-or-pos (p / d % 2))
 
 -- a turn of the loop that exchanges: octet i of each half is done
@@ -105,7 +103,7 @@ cross-more xs to d i lo hi h l hl hu done n p hn hp hd =
     ∙ by-cases n i
     (λ e. subst (λ (k : ℕ). bitAt first k p ≡ bitAt xs (crossedOctet d k p) (crossedBit d k p)) (sym e)
     (ap (λ (v : ℕ). bitOf v p) (getD-set-same to i lo 0 (omega arith)) ∙ from-lower xs d i p lo h (hl p hp)))
-    (λ other. ap (λ (v : ℕ). bitOf v p) (getD-set-other to i n lo 0 other) ∙ done n p hn hp (still n i hn h above other hd)))
+    (λ other. ap (λ (v : ℕ). bitOf v p) (getD-set-other to i n lo 0 other) ∙ done n p hn hp (done-before n i hn h above other hd)))
 
 -- the rows riffled after it
 rows-low : (n : ℕ) → n < 128 → rowsRiffled n % 64 ≡ n / 32 * 16 + n % 16
@@ -128,20 +126,20 @@ exchange-end xs to r d done e n p hn hp =
 
 -- ---- three exchanges turn the bits over: row and bit change over
 
--- where the first, the second and the third take bit p of octet n from, tested at all 1,024: the first two stay within eight rows
-abbrev thrice : ℕ → ℕ → (Bool × Bool) × (ℕ × ℕ)
-thrice n p =
+-- bit p of octet n followed back through the third exchange, the second and the first, at all 1,024: each step stays within 128 octets of eight bits
+abbrev followedBack : ℕ → ℕ → (Bool × Bool) × (ℕ × ℕ)
+followedBack n p =
     let n₁ : ℕ = exchangedOctet 1 n p in
     let p₁ : ℕ = exchangedBit 1 n p in
     let n₂ : ℕ = exchangedOctet 2 n₁ p₁ in
     let p₂ : ℕ = exchangedBit 2 n₁ p₁ in
     ((ltb n₁ 128 && ltb p₁ 8, ltb n₂ 128 && ltb p₂ 8), (exchangedOctet 4 n₂ p₂, exchangedBit 4 n₂ p₂))
 
-over : (n p : ℕ) → n < 128 → p < 8 → thrice n p ≡ ((true, true), (16 * p + n % 16, n / 16))
+followed-back : (n p : ℕ) → n < 128 → p < 8 → followedBack n p ≡ ((true, true), (16 * p + n % 16, n / 16))
 unfolding tab
-over n p hn hp =
-    agree (thrice n) (λ (p : ℕ). ((true, true), (16 * p + n % 16, n / 16))) 8
-    (agree (λ (n : ℕ). tab (thrice n) 8) (λ (n : ℕ). tab (λ (p : ℕ). ((true, true), (16 * p + n % 16, n / 16))) 8) 128 refl n hn) p hp
+followed-back n p hn hp =
+    agree (followedBack n) (λ (p : ℕ). ((true, true), (16 * p + n % 16, n / 16))) 8
+    (agree (λ (n : ℕ). tab (followedBack n) 8) (λ (n : ℕ). tab (λ (p : ℕ). ((true, true), (16 * p + n % 16, n / 16))) 8) 128 refl n hn) p hp
 
 within : (n p : ℕ) → (ltb n 128 && ltb p 8) ≡ true → (n < 128) × (p < 8)
 within n p e = let h = and-true (ltb n 128) (ltb p 8) e in (ltb-true n 128 (h .0), ltb-true p 8 (h .1))
@@ -155,7 +153,7 @@ module _ (xs a b c : List ℕ) (ea : (n p : ℕ) → n < 128 → p < 8 → bitAt
       let p₁ : ℕ = exchangedBit 1 n p in
       let n₂ : ℕ = exchangedOctet 2 n₁ p₁ in
       let p₂ : ℕ = exchangedBit 2 n₁ p₁ in
-      let t : thrice n p ≡ ((true, true), (16 * p + n % 16, n / 16)) = over n p hn hp in
+      let t : followedBack n p ≡ ((true, true), (16 * p + n % 16, n / 16)) = followed-back n p hn hp in
       let h₁ = within n₁ p₁ (ap (λ (r : (Bool × Bool) × (ℕ × ℕ)). r .0 .0) t) in
       let h₂ = within n₂ p₂ (ap (λ (r : (Bool × Bool) × (ℕ × ℕ)). r .0 .1) t) in
       ec n p hn hp ∙ eb n₁ p₁ (h₁ .0) (h₁ .1) ∙ ea n₂ p₂ (h₂ .0) (h₂ .1) ∙ ap (λ (r : (Bool × Bool) × (ℕ × ℕ)). bitAt xs (r .1 .0) (r .1 .1)) t
