@@ -1,18 +1,55 @@
 // The facts that every coding type carries, from Figure 5 and Table 3, and the noise levels.
 ghost use mathlib.Core.Path.{_≡_};
-ghost use Rattle.coding.specs.Coding.{entryOf, sampleBits, droppableBits, resetBit, reserved, frameLength, refusal6};
+ghost use Prim.Native.Nat.{_*_, _/_, _%_, _^_, _<_, _≤_};
+ghost use Rattle.coding.specs.Coding.{digitsOf, digitAt, Digits, sampleBits, droppableBits, resetBit, reserved, frameLength, refusal6};
 ghost use Rattle.coding.specs.Noise.{noiseOf, paper};
-use octets::at;
 use octets::less;
 use octets::pick;
 use octets::wide;
 use refusals::refuse;
 
-// The entry of a table for type t; 0 past its end.
-fn entry(table: &[u8], t: u8) -> u8
-    ensures { λ r. ⌜ r ≡ entryOf (now (table .entry)) t ⌝ }
+// Sixteen entries of a table, a hexadecimal digit for each, the first the lowest. The compiler works such a number out
+// where the table is constant, and a look-up is then a shift: an index would copy the table first.
+fn digits(table: &[u8; 32], from: usize) -> u64
+    requires { ⌜ (from ≤ 16) × Digits (now table) ⌝ }
+    ensures { λ r. ⌜ r ≡ digitsOf (now (table .entry)) from 16 ⌝ }
 {
-    at(table, wide(t)) as u8
+    let mut sum: u64 = 0;
+    for i in 0..16 {
+        sum = sum + (long(table[from + i]) << (4 * i));
+    }
+    sum
+}
+
+fn long(x: u8) -> u64
+    ensures { λ r. ⌜ (r ≡ x) × (r < 256) ⌝ }
+{
+    x as u64
+}
+
+// A table as two such numbers.
+struct Halves {
+    low: u64,
+    high: u64,
+}
+
+fn digit(half: u64, t: u8) -> u8
+    ensures { λ r. ⌜ r ≡ half / 2 ^ (4 * (t % 16)) % 16 ⌝ }
+{
+    ((half >> (4 * (t % 16))) % 16) as u8
+}
+
+// The entry for type t; 0 past the table's end.
+fn entry(h: Halves, t: u8) -> u8
+    ensures { λ r. ⌜ r ≡ digitAt (h .low) (h .high) t ⌝ }
+{
+    if 31 < t {
+        return 0;
+    }
+    if t < 16 {
+        return digit(h.low, t);
+    }
+    digit(h.high, t)
 }
 
 pub struct Coding(pub u8);
@@ -128,22 +165,49 @@ impl Coding {
 
     pub const OVERHEAD: usize = 10;
 
+    fn samples_halves() -> Halves
+        ensures { λ r. ⌜ (r .low ≡ 0x54328876543218) × (r .high ≡ 0x800540000) ⌝ }
+    {
+        Halves {
+            low: digits(&Self::SAMPLE_BITS, 0),
+            high: digits(&Self::SAMPLE_BITS, 16),
+        }
+    }
+
+    fn droppable_halves() -> Halves
+        ensures { λ r. ⌜ (r .low ≡ 0x0) × (r .high ≡ 0x200320000) ⌝ }
+    {
+        Halves {
+            low: digits(&Self::DROPPABLE_BITS, 0),
+            high: digits(&Self::DROPPABLE_BITS, 16),
+        }
+    }
+
+    fn reset_halves() -> Halves
+        ensures { λ r. ⌜ (r .low ≡ 0x11110000000000) × (r .high ≡ 0x100110000) ⌝ }
+    {
+        Halves {
+            low: digits(&Self::RESET, 0),
+            high: digits(&Self::RESET, 16),
+        }
+    }
+
     pub fn sample_bits(self) -> u8
         ensures { λ r. ⌜ r ≡ sampleBits (self .0) ⌝ }
     {
-        entry(&Self::SAMPLE_BITS, self.0)
+        entry(Self::samples_halves(), self.0)
     }
 
     pub fn droppable_bits(self) -> u8
         ensures { λ r. ⌜ r ≡ droppableBits (self .0) ⌝ }
     {
-        entry(&Self::DROPPABLE_BITS, self.0)
+        entry(Self::droppable_halves(), self.0)
     }
 
     pub fn reset(self) -> u8
         ensures { λ r. ⌜ r ≡ resetBit (self .0) ⌝ }
     {
-        entry(&Self::RESET, self.0)
+        entry(Self::reset_halves(), self.0)
     }
 
     pub fn reserved(self) -> bool

@@ -1,9 +1,9 @@
 // The check sequence of ISO 3309: worked out over octets, tested on a frame, and put into one.
 ghost use mathlib.Core.Path.{_≡_};
 ghost use mathlib.Core.List.{_++_};
-ghost use Prim.Native.Nat.{_+_, _≤_};
+ghost use Prim.Native.Nat.{ℕ, _+_, _<_, _≤_};
 ghost use lib.ListN.{length, take, drop};
-ghost use Rattle.fcs.specs.Fcs.{fcsBits, fcsOf, fcsOctets, fcsGood};
+ghost use Rattle.fcs.specs.Fcs.{fcsBits, fcsRun, fcsOf, fcsOctets, fcsGood};
 
 // One octet: what a table would hold at k is three shifts of one number, so there is no table.
 fn octet(reg: u16, o: u8) -> u16
@@ -14,16 +14,93 @@ fn octet(reg: u16, o: u8) -> u16
     (reg / 256) ^ ((x * 256) ^ (x * 8) ^ (x / 16))
 }
 
-pub fn fcs(s: &[u8]) -> u16
-    ensures { λ r. ⌜ r ≡ fcsOf (now (s .entry)) ⌝ }
+// Sixteen zero bits, fed to a register of sixteen.
+fn sixteen(a: u16) -> u16
+    ensures { λ r. ⌜ r ≡ fcsBits 16 a 0 ⌝ }
 {
-    let mut reg: u16 = 65535;
-    let mut i = 0;
+    let t = a ^ (a << 4);
+    let q = t ^ (t << 8) ^ (a << 11);
+    q ^ (q >> 5) ^ (q >> 12)
+}
+
+// Of a register of 32 bits, one that 32 zero bits bring to where 64 bring the first. The generator's square is
+// x^32 + x^24 + x^10 + 1, so the shifts are twice those above, and four octets take one step.
+fn folded(a: u32) -> u32
+    ensures { λ r. ⌜ fcsBits 32 r 0 ≡ fcsBits 32 (fcsBits 32 a 0) 0 ⌝ }
+{
+    let t = a ^ (a << 8);
+    let q = t ^ (t << 16) ^ (a << 22);
+    q ^ (q >> 10) ^ (q >> 24)
+}
+
+// Thirty-two zero bits, fed to a register of 32.
+fn ended(a: u32) -> u16
+    ensures { λ r. ⌜ r ≡ fcsBits 32 a 0 ⌝ }
+{
+    let low = sixteen((a % 65536) as u16);
+    sixteen(((a / 65536) as u16) ^ low)
+}
+
+fn wide(x: u8) -> u32
+    ensures { λ r. ⌜ (r ≡ x) × (r < 256) ⌝ }
+{
+    x as u32
+}
+
+// Four octets from i on, the first the lowest.
+fn word(s: &[u8], i: usize) -> u32
+    requires { ⌜ i + 4 ≤ length (now s) ⌝ }
+    ensures { λ r. ⌜ ((reg : ℕ) → fcsBits 32 reg r ≡ fcsRun reg (take 4 (drop i (now (s .entry))))) ⌝ }
+{
+    wide(s[i]) + wide(s[i + 1]) * 256 + wide(s[i + 2]) * 65536 + wide(s[i + 3]) * 16777216
+}
+
+// The octets from `from` on, one by one.
+fn rest(s: &[u8], from: usize, before: u16) -> u16
+    requires { ⌜ from ≤ length (now s) ⌝ }
+    ensures { λ r. ⌜ r ≡ fcsRun before (drop from (now (s .entry))) ⌝ }
+{
+    let mut reg = before;
+    let mut i = from;
     while i < s.len() {
         reg = octet(reg, s[i]);
         i += 1;
     }
-    65535 - reg
+    reg
+}
+
+pub fn fcs(s: &[u8]) -> u16
+    ensures { λ r. ⌜ r ≡ fcsOf (now (s .entry)) ⌝ }
+{
+    if s.len() < 4 {
+        return 65535 - rest(s, 0, 65535);
+    }
+    let mut reg = word(s, 0) ^ 65535;
+    let mut i: usize = 4;
+    while 4 <= s.len() - i {
+        reg = folded(reg) ^ word(s, i);
+        i += 4;
+    }
+    65535 - rest(s, i, ended(reg))
+}
+
+// The check of eight octets, with no loop.
+fn eight(s: &[u8]) -> u16
+    requires { ⌜ 8 ≤ length (now s) ⌝ }
+    ensures { λ r. ⌜ r ≡ fcsOf (take 8 (now (s .entry))) ⌝ }
+{
+    let reg = word(s, 0) ^ 65535;
+    65535 - ended(folded(reg) ^ word(s, 4))
+}
+
+fn first(s: &[u8], n: usize) -> u16
+    requires { ⌜ n ≤ length (now s) ⌝ }
+    ensures { λ r. ⌜ r ≡ fcsOf (take n (now (s .entry))) ⌝ }
+{
+    if n == 8 {
+        return eight(s);
+    }
+    fcs(&s[..n])
 }
 
 // Whether the last two octets of frame are the check of its first n, or of all where it has fewer.
@@ -34,7 +111,7 @@ pub fn good(frame: &[u8], n: usize) -> bool
     let low = octets::at(frame, octets::less(len, 2));
     let high = octets::at(frame, octets::less(len, 1));
     let part = octets::lesser(n, len);
-    let check = fcs(&frame[..part]);
+    let check = first(frame, part);
     low + 256 * high == check as usize
 }
 
@@ -43,7 +120,7 @@ pub fn seal(out: &mut [u8], n: usize, at: usize)
     requires { ⌜ (n ≤ at) × (at + 2 ≤ length (now out)) ⌝ }
     ensures { λ _. ⌜ now (out .exit) ≡ take at (now (out .entry)) ++ fcsOctets (take n (now (out .entry))) ++ drop (at + 2) (now (out .entry)) ⌝ }
 {
-    let check = fcs(&out[..n]);
+    let check = first(out, n);
     out[at] = (check % 256) as u8;
     out[at + 1] = (check / 256) as u8;
 }

@@ -1,17 +1,17 @@
 -- What is known of a frame that nothing refuses, both ways.
-use Prim.Native.Nat.{ℕ, _-_, _%_, _≤_}
+use Prim.Native.Nat.{ℕ, _-_, _/_, _%_, _<_, _≤_}
 use mathlib.Core.Path.{_≡_, ap, _∙_}
-use mathlib.Core.Bool.{true, false, _&&_, not, cond}
+use mathlib.Core.Bool.{Bool, true, false, _&&_, _||_, not, cond}
 use mathlib.Core.List.{List}
-use lib.Dec.{eqb}
+use lib.Dec.{ltb, eqb}
 use lib.ListN.{length}
-use borrow.Author.Tests.{ltb-false, eqb-true, le-ltb, eq-eqb, not-false}
+use borrow.Author.Tests.{lt-ltb, ltb-false, eqb-true, le-ltb, eq-eqb, not-false}
 use Rattle.octets.specs.Octets.{octet}
 use Rattle.octets.proofs.BoolLaws.{or-false}
-use Rattle.refusals.specs.Refusals.{_orElse_, refusal1}
+use Rattle.refusals.specs.Refusals.{_orElse_, refuse, refusal1}
 use Rattle.refusals.proofs.RefusalLaws.{orElse-zero, orElse-assoc, refuse-zero, in-range, range-in}
 use Rattle.fcs.specs.Fcs.{fcsGood}
-use Rattle.coding.specs.Coding.{droppableBits, reserved}
+use Rattle.coding.specs.Coding.{droppableBits, frameLength, reserved}
 use Rattle.frame.specs.Fields.{address, control, isVoice, fieldM, fieldC, stamp, coding, covered}
 use Rattle.frame.specs.Orders.{refusal2, refusal3, refusal4, refusal5, legalLength, linkRefusal, layoutRefusal, takenRefusal, voiceRefusal, signalRefusal}
 
@@ -132,3 +132,17 @@ signal-taken f h =
     let p = orElse-zero _ _ h in
     let q = orElse-zero _ _ (p .1) in
     (link-passes f (p .0), layout-passes f (q .1), refuse-zero _ 18 (q .0))
+
+-- a frame of fewer than ten octets is refused by 1, whatever comes after the link's numbers
+pub too-short : (f : List ℕ) (n : ℕ) → length f < 10 → 1 ≡ linkRefusal f orElse n
+unfolding linkRefusal
+too-short f n h = rw (lt-ltb (length f) 10 h)
+
+-- 7, 8 and 9 of the numbers that they go by
+pub laid : (f : List ℕ) (voice : Bool) (len fifth st t d w p l whole q r7 r8 r9 u n : ℕ) → voice ≡ isVoice f → len ≡ length f → fifth ≡ octet 5 f → st ≡ octet 6 f → t ≡ coding f
+    → d ≡ droppableBits t → w ≡ d → p ≡ cond voice w 0 → r7 ≡ refuse (not (eqb (fifth / 16 % 4) p) || ltb (fifth / 16 % 4) (fifth % 4)) 7
+    → l ≡ fifth / 16 % 4 - fifth % 4 → whole ≡ frameLength t l → q ≡ cond voice whole 10 → r8 ≡ refuse (not (eqb len q)) 8 → r9 ≡ refuse (ltb 200 st) 9
+    → u ≡ r8 orElse r9 → n ≡ r7 orElse u → n ≡ layoutRefusal f
+unfolding layoutRefusal
+laid f voice len fifth st t d w p l whole q r7 r8 r9 u n ev el e5 e6 et ed ew ep e7 eL eW eq e8 e9 eu en =
+    rw (← e5, ← e6, ← ev, ← el, en, eu, e9, e8, eq, eW, eL, e7, ep, ew, ed, et)

@@ -1,11 +1,13 @@
 // A frame: its fields, what refuses it, and the two calls that say what it is.
 ghost use mathlib.Core.Path.{_≡_};
 ghost use mathlib.Core.Bool.{true, false};
-ghost use Prim.Native.Nat.{_<_, _≤_};
+ghost use mathlib.Core.List.{List};
+ghost use Prim.Native.Nat.{ℕ, _<_, _≤_};
 ghost use lib.ListN.{length};
+ghost use Rattle.octets.specs.Octets.{octet};
 ghost use Rattle.refusals.specs.Refusals.{_orElse_};
-ghost use Rattle.frame.specs.Fields.{address, control, isVoice, fieldM, fieldC, stamp, moreBit, coding, sequence, noise, na, signalBits};
-ghost use Rattle.frame.specs.Orders.{refusal2, refusal3, refusal4, refusal5, refusal6, refusal7, refusal8, refusal9, refusal19, legalLength, linkRefusal, layoutRefusal, takenRefusal, voiceRefusal, signalRefusal};
+ghost use Rattle.frame.specs.Fields.{address, control, isVoice, fieldM, fieldC, stamp, moreBit, coding as codingOf, sequence, noise, na, signalBits};
+ghost use Rattle.frame.specs.Orders.{refusal2, refusal3, refusal4, refusal5, refusal6, refusal19, linkRefusal, layoutRefusal, takenRefusal, voiceRefusal, signalRefusal};
 ghost use Rattle.frame.specs.Calls.{linkAnswer, takenAnswer};
 use coding::Coding;
 use octets::at;
@@ -43,7 +45,7 @@ pub fn field_c(frame: &[u8]) -> usize
 }
 
 pub fn coding_of(frame: &[u8]) -> Coding
-    ensures { λ r. ⌜ r .0 ≡ coding (now (frame .entry)) ⌝ }
+    ensures { λ r. ⌜ r .0 ≡ codingOf (now (frame .entry)) ⌝ }
 {
     Coding((at(frame, 6) % 32) as u8)
 }
@@ -120,34 +122,18 @@ fn refusal_6(frame: &[u8]) -> u8
     refuse(is_voice(frame) & coding_of(frame).reserved(), 6)
 }
 
-fn refusal_7(frame: &[u8]) -> u8
-    ensures { λ r. ⌜ r ≡ refusal7 (now (frame .entry)) ⌝ }
+// 7, 8 and 9, of the octets and the length that they go by: numbers pass in registers, a slice through memory.
+fn layout_by(voice: bool, len: usize, fifth: usize, stamp: u8, coding: Coding) -> u8
+    ensures { λ r. ⌜ ((f : List ℕ) → voice ≡ isVoice f → len ≡ length f → fifth ≡ octet 5 f → stamp ≡ octet 6 f → coding .0 ≡ codingOf f → r ≡ layoutRefusal f) ⌝ }
 {
-    let m = field_m(frame);
-    let d = octets::wide(coding_of(frame).droppable_bits());
-    refuse(
-        (m != octets::pick(is_voice(frame), d, 0)) | (m < field_c(frame)),
-        7,
-    )
-}
-
-fn legal_length(frame: &[u8]) -> usize
-    ensures { λ r. ⌜ r ≡ legalLength (now (frame .entry)) ⌝ }
-{
-    let dropped = octets::less(field_m(frame), field_c(frame));
-    octets::pick(is_voice(frame), coding_of(frame).frame_length(dropped), 10)
-}
-
-fn refusal_8(frame: &[u8]) -> u8
-    ensures { λ r. ⌜ r ≡ refusal8 (now (frame .entry)) ⌝ }
-{
-    refuse(frame.len() != legal_length(frame), 8)
-}
-
-fn refusal_9(frame: &[u8]) -> u8
-    ensures { λ r. ⌜ r ≡ refusal9 (now (frame .entry)) ⌝ }
-{
-    refuse(200 < at(frame, 5), 9)
+    let m = fifth / 16 % 4;
+    let c = fifth % 4;
+    let d = octets::wide(coding.droppable_bits());
+    let r7 = refuse((m != octets::pick(voice, d, 0)) | (m < c), 7);
+    let whole = coding.frame_length(octets::less(m, c));
+    let r8 = refuse(len != octets::pick(voice, whole, 10), 8);
+    let r9 = refuse(200 < stamp, 9);
+    or_else(r7, or_else(r8, r9))
 }
 
 fn refusal_19(frame: &[u8], voicecall: bool) -> u8
@@ -173,32 +159,65 @@ pub fn link_refusal(frame: &[u8]) -> u8
     or_else(refusal_4(frame), refusal_5(frame))
 }
 
-fn layout_refusal(frame: &[u8]) -> u8
-    ensures { λ r. ⌜ r ≡ layoutRefusal (now (frame .entry)) ⌝ }
-{
-    let after = or_else(refusal_8(frame), refusal_9(frame));
-    or_else(refusal_7(frame), after)
-}
-
 pub fn taken_refusal(frame: &[u8]) -> u8
     ensures { λ r. ⌜ r ≡ takenRefusal (now (frame .entry)) ⌝ }
 {
-    let body = or_else(refusal_6(frame), layout_refusal(frame));
-    or_else(link_refusal(frame), body)
+    if frame.len() < 10 {
+        return 1;
+    }
+    let first = link_refusal(&*frame);
+    if first != 0 {
+        return first;
+    }
+    let r6 = refusal_6(frame);
+    let laid = layout_by(
+        is_voice(frame),
+        frame.len(),
+        at(frame, 4),
+        stamp_of(frame),
+        coding_of(frame),
+    );
+    or_else(r6, laid)
 }
 
 pub fn voice_refusal(frame: &[u8]) -> u8
     ensures { λ r. ⌜ r ≡ voiceRefusal (now (frame .entry)) ⌝ }
 {
-    let body = or_else(refusal_6(frame), layout_refusal(frame));
-    or_else(link_refusal(frame), or_else(refusal_19(frame, true), body))
+    if frame.len() < 10 {
+        return 1;
+    }
+    let first = or_else(link_refusal(&*frame), refusal_19(frame, true));
+    if first != 0 {
+        return first;
+    }
+    let r6 = refusal_6(frame);
+    let laid = layout_by(
+        is_voice(frame),
+        frame.len(),
+        at(frame, 4),
+        stamp_of(frame),
+        coding_of(frame),
+    );
+    or_else(r6, laid)
 }
 
 pub fn signal_refusal(frame: &[u8]) -> u8
     ensures { λ r. ⌜ r ≡ signalRefusal (now (frame .entry)) ⌝ }
 {
-    let body = layout_refusal(frame);
-    or_else(link_refusal(frame), or_else(refusal_19(frame, false), body))
+    if frame.len() < 10 {
+        return 1;
+    }
+    let first = or_else(link_refusal(&*frame), refusal_19(frame, false));
+    if first != 0 {
+        return first;
+    }
+    layout_by(
+        is_voice(frame),
+        frame.len(),
+        at(frame, 4),
+        stamp_of(frame),
+        coding_of(frame),
+    )
 }
 
 pub struct LinkFacts {

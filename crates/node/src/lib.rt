@@ -11,12 +11,15 @@ use refusals::or_else;
 fn forward_refusal(frame: &[u8], level: usize, address: usize, room: usize) -> u8
     ensures { λ r. ⌜ ((wait : ℕ) → r ≡ forwardRefusal level wait address (now (frame .entry)) room) ⌝ }
 {
-    let full = refusals::refusal_16(room, onward::onward_length(frame, level));
-    let taken = or_else(frame::taken_refusal(frame), full);
-    or_else(
-        refusals::refusal_10(level),
-        or_else(refusals::refusal_15(address), taken),
-    )
+    let given = or_else(refusals::refusal_10(level), refusals::refusal_15(address));
+    if given != 0 {
+        return given;
+    }
+    let taken = frame::taken_refusal(&*frame);
+    if taken != 0 {
+        return taken;
+    }
+    refusals::refusal_16(room, onward::onward_length(frame, level))
 }
 
 // The frame sent on, of n octets, into a buffer with room for it.

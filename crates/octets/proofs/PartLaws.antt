@@ -6,7 +6,7 @@ use native.Mathlib.Nat.{le-refl}
 use native.Mathlib.Numerals.{add-one}
 use native.Mathlib.Omega.{arith}
 use lib.ListN.{length, getD, take, drop, set, length-append, length-take, length-drop, drop-of-length-le}
-use lib.Seq.{take-suc, drop-cons, set-at, append-snoc, length-take-le, take-at, drop-at, take-all, drop-drop, drop-length, getD-append-add}
+use lib.Seq.{take-suc, drop-cons, set-at, append-snoc, length-take-le, take-add, take-at, drop-at, take-all, drop-drop, drop-length, getD-append-add}
 use borrow.Rule.Slice.PartMut.{midOf, putMid, post-is}
 
 -- from a to the end
@@ -47,3 +47,36 @@ last-two x u v =
     let e₂ : length (x ++ u ∷ v ∷ []) - 2 ≡ length x + 0 = omega arith in
     let e₁ : length (x ++ u ∷ v ∷ []) - 1 ≡ length x + 1 = omega arith in
     (rw e₂ (getD-append-add x (u ∷ v ∷ []) 0 0), rw e₁ (getD-append-add x (u ∷ v ∷ []) 1 0))
+
+-- a block of k octets of s from n on, moved to its place in out
+pub moved-block : (s O x p : List ℕ) (n k : ℕ) → n + k ≤ length s → x ≡ take n s ++ drop n O → n ≤ length s
+    → p ≡ take k (drop n s) ++ drop k (midOf n (length x - n) x) → putMid n (length x - n) x p ≡ take (n + k) s ++ drop (n + k) O
+moved-block s O x p n k h ex hn ep =
+    grown (take n s) (take k (drop n s)) O x p n k (length-take-le n s hn) (length-take-le k (drop n s) (omega (arith, length-drop n s))) ex ep
+    ∙ ap (λ (l : List ℕ). l ++ drop (n + k) O) (sym (take-add n k s))
+
+-- sixteen octets of s from n on, as they come in a block of sixteen
+pub block-is : (s b q : List ℕ) (n k : ℕ) → k ≡ 16 → n + 16 ≤ length s → length b ≡ 16
+    → q ≡ take k (drop n s) ++ drop (length (take k (drop n s))) b → q ≡ take 16 (drop n s)
+block-is s b q n k ek h hb eq =
+    eq ∙ rw (ek, length-take-le 16 (drop n s) (omega (arith, length-drop n s)), drop-of-length-le b {i = 16} (omega arith), append-nil)
+
+pub block-length : (s q : List ℕ) (n : ℕ) → n + 16 ≤ length s → q ≡ take 16 (drop n s) → length q ≡ 16
+block-length s q n h eq = ap length eq ∙ length-take-le 16 (drop n s) (omega (arith, length-drop n s))
+
+pub tail-length : (a : ℕ) (xs : List ℕ) → length (midOf a (length xs - a) xs) ≡ length xs - a
+tail-length a xs = ap length (tail-of a xs) ∙ length-drop a xs
+
+-- the block put in its place
+pub moved-sixteen : (s O x p q : List ℕ) (n : ℕ) → n + 16 ≤ length s → x ≡ take n s ++ drop n O → q ≡ take 16 (drop n s)
+    → p ≡ q ++ drop (length q) (midOf n (length x - n) x) → putMid n (length x - n) x p ≡ take (n + 16) s ++ drop (n + 16) O
+moved-sixteen s O x p q n h ex eq ep =
+    moved-block s O x p n 16 h ex (omega arith) (ep ∙ ap (λ (k : ℕ). q ++ drop k (midOf n (length x - n) x)) (block-length s q n h eq) ∙ ap (λ (l : List ℕ). l ++ drop 16 (midOf n (length x - n) x)) eq)
+
+-- and what is left of s
+pub moved-rest : (s O x p : List ℕ) (n : ℕ) → n ≤ length s → x ≡ take n s ++ drop n O
+    → p ≡ midOf n (length s - n) s ++ drop (length (midOf n (length s - n) s)) (midOf n (length x - n) x) → putMid n (length x - n) x p ≡ s ++ drop (length s) O
+moved-rest s O x p n h ex ep =
+    let e : n + (length s - n) ≡ length s = omega arith in
+    moved-block s O x p n (length s - n) (omega arith) ex h (ep ∙ ap (λ (k : ℕ). midOf n (length s - n) s ++ drop k (midOf n (length x - n) x)) (tail-length n s))
+    ∙ rw (e, take-all (length s) s (le-refl (length s)))

@@ -45,8 +45,8 @@ pub fn next_number(n: u8) -> u8
     if 15 <= n { 1 } else { n + 1 }
 }
 
-// All of src, to the front of out. The node's and the origin's proofs show the room.
-pub fn copy(src: &[u8], out: &mut [u8])
+// All of src, to the front of out, octet by octet.
+fn copy_octets(src: &[u8], out: &mut [u8])
     requires { ⌜ length (now src) ≤ length (now out) ⌝ }
     ensures { λ _. ⌜ now (out .exit) ≡ now (src .entry) ++ drop (length (now (src .entry))) (now (out .entry)) ⌝ }
 {
@@ -56,4 +56,21 @@ pub fn copy(src: &[u8], out: &mut [u8])
         out[i] = src[i];
         i += 1;
     }
+}
+
+// All of src, to the front of out, by sixteens: a compiler knows that a local block is apart from both, and moves it whole.
+// The node's and the origin's proofs show the room.
+pub fn copy(src: &[u8], out: &mut [u8])
+    requires { ⌜ length (now src) ≤ length (now out) ⌝ }
+    ensures { λ _. ⌜ now (out .exit) ≡ now (src .entry) ++ drop (length (now (src .entry))) (now (out .entry)) ⌝ }
+{
+    let n = src.len();
+    let mut i: usize = 0;
+    while 16 <= n - i {
+        let mut block = [0u8; 16];
+        copy_octets(&src[i..i + 16], &mut block);
+        copy_octets(&block, &mut out[i..]);
+        i += 16;
+    }
+    copy_octets(&src[i..], &mut out[i..]);
 }

@@ -135,14 +135,17 @@ fn send_refusal(
     let kind = Coding(coding);
     let r6 = kind.refusal_6();
     let r12 = refusals::refusal_12(noise, 0);
+    let cheap = or_else(r14, or_else(r13, or_else(r6, r12)));
+    if cheap != 0 {
+        return cheap;
+    }
     let r11 = blocks::refusal_11(samples, octets::wide(kind.sample_bits()));
     let r10 = refusals::refusal_10(level);
     let r15 = refusals::refusal_15(address);
     let length = kind.frame_length(dropped_of(coding, level));
     let r16 = refusals::refusal_16(room, length);
     let last = or_else(r10, or_else(r15, r16));
-    let body = or_else(r6, or_else(r12, or_else(r11, last)));
-    or_else(r14, or_else(r13, body))
+    or_else(r11, last)
 }
 
 // The frame sent, into a buffer with room for it: only the blocks that are kept are packed.

@@ -1,31 +1,27 @@
-use Prim.Native.Nat.{ℕ}
-use mathlib.Core.Path.{_≡_, ap, _∙_}
-use mathlib.Core.List.{List}
-use lib.ListN.{getD}
-use Rattle.coding.specs.Coding.{entryOf}
-use borrow.Author.Needs.{needs}
+-- `coding::entry` meets its contract.
+use mathlib.Core.Path.{sym, _∙_}
+use borrow.Author.Tests.{lt-ltb, le-ltb}
+use Rattle.coding.specs.Coding.{digitAt}
 use Rattle.coding.proofs.entry.Statement.{statement}
 use Rattle.coding.proofs.entry.Tie as tie
 
--- what stands at the type, as it was widened
-looked-up : (table : List ℕ) (t wide r : ℕ) → wide ≡ t → r ≡ getD table wide 0 → r ≡ entryOf table t
-unfolding entryOf
-looked-up table t wide r p e = e ∙ ap (λ (k : ℕ). getD table k 0) p
-
-wide-requires : tie.Need-wide-requires
-wide-requires c κs = tt
-
-at-requires : tie.Need-at-requires
-at-requires c κs = tt
-
-cast-result : tie.Need-cast-result
-cast-result c = search needs
-
 returns : tie.Need-returns
-returns c =
-    let w = c .before .wide in
-    let a = c .before .before .before .args in
-    looked-up (a .table .now) (a .t) (w .result) (c .at .result) (w .ensures .0) (c .at .ensures .0)
+unfolding digitAt
+returns c = rw (lt-ltb _ _ (c .if1 .taken))
+
+digit-requires : tie.Need-digit-requires
+digit-requires c κs = tt
+
+returns-2 : tie.Need-returns-2
+unfolding digitAt
+returns-2 c = rw (le-ltb _ _ (c .before .before .if1 .left), lt-ltb _ _ (c .before .if2 .taken)) (c .digit .ensures)
+
+digit-requires-2 : tie.Need-digit-requires-2
+digit-requires-2 c κs = tt
+
+returns-3 : tie.Need-returns-3
+unfolding digitAt
+returns-3 c = rw (le-ltb _ _ (c .before .before .if1 .left), le-ltb _ _ (c .before .if2 .left)) (c .digit2 .ensures)
 
 pub entry-spec : {M : Type 1} → statement M
-entry-spec = tie.close (tie.spec wide-requires at-requires cast-result returns)
+entry-spec = tie.close (tie.spec returns digit-requires returns-2 digit-requires-2 returns-3)

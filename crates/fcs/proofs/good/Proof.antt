@@ -1,7 +1,5 @@
 -- `fcs::good` meets its contract.
-use mathlib.Core.Path.{sym}
 use native.Mathlib.Omega.{arith}
-use lib.Seq.{length-take-le}
 use borrow.Author.Needs.{needs}
 use Rattle.fcs.proofs.SealLaws.{tested}
 use Rattle.fcs.proofs.good.Statement.{statement}
@@ -22,11 +20,8 @@ at-requires-2 c κs = search needs
 lesser-requires : tie.Need-lesser-requires
 lesser-requires c κs = search needs
 
-slice-aggregate-fcs : tie.Need-slice-aggregate-fcs
-slice-aggregate-fcs c = sym (length-take-le _ _ (omega arith))
-
-fcs-requires : tie.Need-fcs-requires
-fcs-requires c κs = search needs
+first-requires : tie.Need-first-requires
+first-requires c κs = omega arith
 
 mul-result : tie.Need-mul-result
 mul-result c = search needs
@@ -39,11 +34,11 @@ cast-result c = search needs
 
 returns : tie.Need-returns
 returns c =
-    let part = c .before .before in
+    let part = c .before in
     let high = part .before in
     let low = high .before .before in
     let a = low .before .before .before .args in
-    tested (a .n) (a .frame .now) (low .before .less .ensures) (low .at .ensures .0) (high .before .less2 .ensures) (high .at2 .ensures .0) (part .lesser .ensures) (c .fcs .ensures)
+    tested (a .n) (a .frame .now) (low .before .less .ensures) (low .at .ensures .0) (high .before .less2 .ensures) (high .at2 .ensures .0) (part .lesser .ensures) (c .first .ensures)
 
 pub good-spec : {M : Type 1} → statement M
 good-spec =
@@ -54,8 +49,7 @@ good-spec =
     less-requires-2
     at-requires-2
     lesser-requires
-    slice-aggregate-fcs
-    fcs-requires
+    first-requires
     mul-result
     add-result
     cast-result

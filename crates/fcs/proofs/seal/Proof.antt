@@ -1,21 +1,13 @@
 -- `fcs::seal` meets its contract.
-use mathlib.Core.Path.{sym}
 use native.Mathlib.Omega.{arith}
 use lib.ListN.{length-set}
-use lib.Seq.{length-take-le}
 use borrow.Author.Needs.{needs}
 use Rattle.fcs.proofs.SealLaws.{put}
 use Rattle.fcs.proofs.seal.Statement.{statement}
 use Rattle.fcs.proofs.seal.Tie as tie
 
-slice-reshare-prefix-fcs : tie.Need-slice-reshare-prefix-fcs
-slice-reshare-prefix-fcs c = search needs
-
-slice-aggregate-fcs : tie.Need-slice-aggregate-fcs
-slice-aggregate-fcs c = sym (length-take-le _ _ (omega arith))
-
-fcs-requires : tie.Need-fcs-requires
-fcs-requires c κs = search needs
+first-requires : tie.Need-first-requires
+first-requires c κs = omega arith
 
 cast-out : tie.Need-cast-out
 cast-out c = search needs
@@ -38,15 +30,13 @@ same-length c = search needs
 returns : tie.Need-returns
 returns c =
     let a = c .before .before .before .args in
-    put (a .n) (a .at) (a .out .now) (omega arith) (c .fcs .ensures)
+    put (a .n) (a .at) (a .out .now) (omega arith) (c .first .ensures)
 
 pub seal-spec : {M : Type 1} → statement M
 seal-spec =
     tie.close
     (tie.spec
-    slice-reshare-prefix-fcs
-    slice-aggregate-fcs
-    fcs-requires
+    first-requires
     cast-out
     slice-write-out
     cast-out-2

@@ -1,20 +1,21 @@
 use mathlib.Core.Path.{refl}
-use borrow.Author.Needs.{needs}
 use Rattle.octets.specs.Octets.{tab}
-use Rattle.coding.specs.Coding.{row}
+use Rattle.coding.specs.Coding.{row, digitAt}
 use Rattle.coding.proofs.CodingLaws.{column}
 use Rattle.coding.proofs.Coding.sample_bits.Statement.{statement}
 use Rattle.coding.proofs.Coding.sample_bits.Tie as tie
 
-slice-aggregate-entry : tie.Need-slice-aggregate-entry
-slice-aggregate-entry c = search needs
+samples-halves-requires : tie.Need-samples-halves-requires
+samples-halves-requires c κs = tt
 
 entry-requires : tie.Need-entry-requires
-entry-requires c κs = search needs
+entry-requires c κs = tt
 
 returns : tie.Need-returns
-unfolding tab row
-returns c = column (λ r. r .0) _ _ _ (c .entry .ensures) refl refl refl
+unfolding tab row digitAt
+returns c =
+    let h = c .before .samples-halves .ensures in
+    column (λ r. r .0) 0x54328876543218 0x800540000 (c .before .before .args .self .0) (c .entry .result) (rw (h .0, h .1) at (c .entry .ensures)) refl refl
 
 pub sample-bits-spec : {M : Type 1} → statement M
-sample-bits-spec = tie.close (tie.spec slice-aggregate-entry entry-requires returns)
+sample-bits-spec = tie.close (tie.spec samples-halves-requires entry-requires returns)

@@ -1,0 +1,189 @@
+-- Many bits at once: feeding zero bits keeps xor, so that a fold is right where it is right on single bits, which antt tests.
+use Prim.Native.Nat.{ℕ, zero, suc, _+_, _*_, _/_, _%_, _^_, _<_, _≤_}
+use mathlib.Core.Path.{_≡_, refl, sym, ap, ap₂, _∙_}
+use mathlib.Core.List.{List, [], _∷_, _++_}
+use native.Mathlib.Nat.{mod-lt, le-refl, one-mul, zero-mul, zero-add, add-zero}
+use native.Mathlib.Numerals.{one-add, add-one}
+use native.Mathlib.Omega.{arith}
+use lib.Bits.{bitXor, xor-shifted, xor-shr, xor-mod, xor-block, xor-comm}
+use lib.Pow.{split, pow-pos, shr-lt}
+use lib.ListN.{length, getD, take, drop, take-append-drop}
+use lib.Seq.{drop-cons, drop-drop, take-add}
+use Rattle.octets.specs.Octets.{tab}
+use Rattle.octets.proofs.TabLaws.{agree}
+use Rattle.octets.proofs.XorLaws.{xor-half, xor-odd, xor-assoc}
+use Rattle.fcs.specs.Fcs.{generator, fcsStep, fcsBits, fcsRun}
+use Rattle.fcs.proofs.ShiftLaws.{added, moved}
+use Rattle.fcs.proofs.RunLaws.{run-append}
+use Rattle.fcs.proofs.ChangeLaws.{joined}
+
+-- ---- functions that keep xor
+
+abbrev pub Linear : (ℕ → ℕ) → Type 0
+Linear f = (a b : ℕ) → f (bitXor a b) ≡ bitXor (f a) (f b)
+
+pub comp : (f g : ℕ → ℕ) → Linear f → Linear g → Linear (λ x. f (g x))
+comp f g hf hg a b = ap f (hg a b) ∙ hf (g a) (g b)
+
+pub sum : (f g : ℕ → ℕ) → Linear f → Linear g → Linear (λ x. bitXor (f x) (g x))
+sum f g hf hg a b =
+    ap₂ bitXor (hf a b) (hg a b) ∙ xor-assoc (f a) (f b) (bitXor (g a) (g b))
+    ∙ ap (bitXor (f a)) (sym (xor-assoc (f b) (g a) (g b)) ∙ ap (λ (z : ℕ). bitXor z (g b)) (xor-comm (f b) (g a)) ∙ xor-assoc (g a) (f b) (g b))
+    ∙ sym (xor-assoc (f a) (g a) (bitXor (f b) (g b)))
+
+pub id : Linear (λ x. x)
+id a b = refl
+
+pub shr : (k : ℕ) → Linear (λ x. x / 2 ^ k)
+shr k a b = xor-shr a b k
+
+pub low : (k : ℕ) → Linear (λ x. x % 2 ^ k)
+low k a b = xor-mod a b k
+
+shl : (k : ℕ) → Linear (λ x. x * 2 ^ k)
+shl k a b =
+    sym (ap₂ bitXor (sym (add-zero (a * 2 ^ k))) (sym (add-zero (b * 2 ^ k))) ∙ xor-block k a b 0 0 (pow-pos k) (pow-pos k) ∙ add-zero (bitXor a b * 2 ^ k))
+
+-- as a register of n bits moves up by k
+pub up : (n k : ℕ) → Linear (λ x. x * 2 ^ k % 2 ^ n)
+up n k = comp (λ x. x % 2 ^ n) (λ x. x * 2 ^ k) (low n) (shl k)
+
+top : (f g : ℕ → ℕ) → Linear f → Linear g → (n h l : ℕ) → h < 2 → l < 2 ^ n → f (2 ^ n) ≡ g (2 ^ n) → f l ≡ g l → f (h * 2 ^ n + l) ≡ g (h * 2 ^ n + l)
+top f g hf hg n zero l hh hl et el = rw (zero-mul, zero-add) el
+top f g hf hg n (suc zero) l hh hl et el =
+    let e : 1 * 2 ^ n + l ≡ bitXor (2 ^ n) l = sym (xor-shifted 1 n l hl) ∙ ap (λ (z : ℕ). bitXor z l) (one-mul (2 ^ n)) in
+    ap f e ∙ hf (2 ^ n) l ∙ ap₂ bitXor et el ∙ sym (hg (2 ^ n) l) ∙ ap g (sym e)
+top f g hf hg n (suc (suc h)) l hh hl et el = absurd (omega arith)
+
+-- two of them that agree at 0 and at the single bits below 2 ^ n agree below 2 ^ n
+pub same : (f g : ℕ → ℕ) → Linear f → Linear g → f 0 ≡ g 0 → (n : ℕ) → ((i : ℕ) → i < n → f (2 ^ i) ≡ g (2 ^ i)) → (x : ℕ) → x < 2 ^ n → f x ≡ g x
+same f g hf hg z zero h x l = let e : x ≡ 0 = omega arith in rw e z
+same f g hf hg z (suc n) h x l =
+    let s = split x n in
+    rw (← s)
+    (top f g hf hg n (x / 2 ^ n) (x % 2 ^ n) (shr-lt 1 n (rw (one-add n) l)) (mod-lt x (pow-pos n)) (h n (le-refl (suc n)))
+    (same f g hf hg z n (λ i q. h i (omega arith)) (x % 2 ^ n) (mod-lt x (pow-pos n))))
+
+-- ---- zero bits
+
+times : (x y : ℕ) → x < 2 → y < 2 → generator * ((x + y) % 2) ≡ bitXor (generator * x) (generator * y)
+times zero zero p q = refl
+times zero (suc zero) p q = refl
+times (suc zero) zero p q = refl
+times (suc zero) (suc zero) p q = refl
+times zero (suc (suc y)) p q = absurd (omega arith)
+times (suc zero) (suc (suc y)) p q = absurd (omega arith)
+times (suc (suc x)) y p q = absurd (omega arith)
+
+taken : Linear (λ x. generator * ((x + 0) % 2))
+taken a b =
+    let e : (bitXor a b + 0) % 2 ≡ ((a + 0) % 2 + (b + 0) % 2) % 2 = omega (arith, xor-odd a b) in
+    ap (λ (z : ℕ). generator * z) e ∙ times ((a + 0) % 2) ((b + 0) % 2) (omega arith) (omega arith)
+
+step-linear : Linear (λ x. fcsStep x 0)
+unfolding fcsStep
+step-linear = sum (λ x. x / 2) (λ x. generator * ((x + 0) % 2)) (shr 1) taken
+
+pub zeros-linear : (n : ℕ) → Linear (λ x. fcsBits n x 0)
+unfolding fcsBits
+zeros-linear zero = id
+zeros-linear (suc n) = comp (λ x. fcsBits n x 0) (λ x. fcsStep x 0) (zeros-linear n) step-linear
+
+-- ---- the folds
+
+unfoldable pub fold : ℕ → ℕ → ℕ → ℕ → ℕ → ℕ → ℕ → ℕ
+fold n a b c d e x =
+    let t = bitXor x (x * 2 ^ a % 2 ^ n) in
+    let q = bitXor (bitXor t (t * 2 ^ b % 2 ^ n)) (x * 2 ^ c % 2 ^ n) in
+    bitXor (bitXor q (q / 2 ^ d)) (q / 2 ^ e)
+
+fold-linear : (n a b c d e : ℕ) → Linear (fold n a b c d e)
+unfolding fold
+fold-linear n a b c d e =
+    let t : ℕ → ℕ = λ x. bitXor x (x * 2 ^ a % 2 ^ n) in
+    let ht : Linear t = sum (λ x. x) (λ x. x * 2 ^ a % 2 ^ n) id (up n a) in
+    let q : ℕ → ℕ = λ x. bitXor (bitXor (t x) (t x * 2 ^ b % 2 ^ n)) (x * 2 ^ c % 2 ^ n) in
+    let hq : Linear q = sum (λ x. bitXor (t x) (t x * 2 ^ b % 2 ^ n)) (λ x. x * 2 ^ c % 2 ^ n)
+    (sum t (λ x. t x * 2 ^ b % 2 ^ n) ht (comp (λ x. x * 2 ^ b % 2 ^ n) t (up n b) ht)) (up n c) in
+    sum (λ x. bitXor (q x) (q x / 2 ^ d)) (λ x. q x / 2 ^ e)
+    (sum q (λ x. q x / 2 ^ d) hq (comp (λ x. x / 2 ^ d) q (shr d) hq)) (comp (λ x. x / 2 ^ e) q (shr e) hq)
+
+abbrev pub fold16 : ℕ → ℕ
+fold16 = fold 16 4 8 11 5 12
+
+abbrev pub fold32 : ℕ → ℕ
+fold32 = fold 32 8 16 22 10 24
+
+pub by-fold16 : (x : ℕ) → x < 65536 → fold16 x ≡ fcsBits 16 x 0
+unfolding fold fcsBits fcsStep tab
+by-fold16 x h =
+    same fold16 (λ x. fcsBits 16 x 0) (fold-linear 16 4 8 11 5 12) (zeros-linear 16) refl 16
+    (agree (λ i. fold16 (2 ^ i)) (λ i. fcsBits 16 (2 ^ i) 0) 16 refl) x h
+
+pub by-fold32 : (x : ℕ) → x < 4294967296 → fcsBits 32 (fold32 x) 0 ≡ fcsBits 32 (fcsBits 32 x 0) 0
+unfolding fold fcsBits fcsStep tab
+by-fold32 x h =
+    same (λ x. fcsBits 32 (fold32 x) 0) (λ x. fcsBits 32 (fcsBits 32 x 0) 0)
+    (comp (λ x. fcsBits 32 x 0) fold32 (zeros-linear 32) (fold-linear 32 8 16 22 10 24))
+    (comp (λ x. fcsBits 32 x 0) (λ x. fcsBits 32 x 0) (zeros-linear 32) (zeros-linear 32)) refl 32
+    (agree (λ i. fcsBits 32 (fold32 (2 ^ i)) 0) (λ i. fcsBits 32 (fcsBits 32 (2 ^ i) 0) 0) 32 refl) x h
+
+-- 32 zero bits are sixteen twice, the high half only moving down in the first
+pub twice : (x : ℕ) {first last : ℕ} → first ≡ fcsBits 16 (x % 65536) 0 → last ≡ fcsBits 16 (bitXor (x / 65536) first) 0 → last ≡ fcsBits 32 x 0
+twice x {first} {last} p q =
+    q ∙ ap (λ (z : ℕ). fcsBits 16 z 0)
+    (ap (bitXor (x / 65536)) p ∙ sym (moved 16 (x / 65536) (x % 65536))
+    ∙ ap (λ (z : ℕ). fcsBits 16 z 0) (xor-shifted (x / 65536) 16 (x % 65536) (mod-lt x (pow-pos 16)) ∙ split x 16))
+    ∙ sym (joined 16 16 x 0 0 (pow-pos 16))
+
+-- ---- four octets as one number
+
+pub four : (reg a b c d : ℕ) → a < 256 → b < 256 → c < 256 → d < 256
+    → fcsBits 32 reg (a + b * 256 + c * 65536 + d * 16777216) ≡ fcsRun reg (a ∷ b ∷ c ∷ d ∷ [])
+unfolding fcsRun
+four reg a b c d ha hb hc hd =
+    let e : a + b * 256 + c * 65536 + d * 16777216 ≡ (b + c * 256 + d * 65536) * 256 + a = omega arith in
+    let f : b + c * 256 + d * 65536 ≡ (c + d * 256) * 256 + b = omega arith in
+    let g : c + d * 256 ≡ d * 256 + c = omega arith in
+    ap (fcsBits 32 reg) e ∙ joined 8 24 reg a (b + c * 256 + d * 65536) ha
+    ∙ ap (fcsBits 24 (fcsBits 8 reg a)) f ∙ joined 8 16 (fcsBits 8 reg a) b (c + d * 256) hb
+    ∙ ap (fcsBits 16 (fcsBits 8 (fcsBits 8 reg a) b)) g ∙ joined 8 8 (fcsBits 8 (fcsBits 8 reg a) b) c d hc
+
+pub four-taken : (s : List ℕ) (i : ℕ) → i + 4 ≤ length s → take 4 (drop i s) ≡ getD s i 0 ∷ getD s (i + 1) 0 ∷ getD s (i + 2) 0 ∷ getD s (i + 3) 0 ∷ []
+four-taken s i h =
+    let p : i + 1 ≡ suc i = omega arith in
+    let q : i + 2 ≡ suc (suc i) = omega arith in
+    let r : i + 3 ≡ suc (suc (suc i)) = omega arith in
+    rw (p, q, r, drop-cons s i 0 (omega arith), drop-cons s (suc i) 0 (omega arith), drop-cons s (suc (suc i)) 0 (omega arith), drop-cons s (suc (suc (suc i))) 0 (omega arith))
+
+-- what four octets from i on make of any register, as a number that is fed to it
+abbrev pub Fed : List ℕ → ℕ → ℕ → Type 0
+Fed s i w = (reg : ℕ) → fcsBits 32 reg w ≡ fcsRun reg (take 4 (drop i s))
+
+pub fed : (s : List ℕ) (i : ℕ) {a b c d : ℕ} → i + 4 ≤ length s → (a ≡ getD s i 0) × (a < 256) → (b ≡ getD s (i + 1) 0) × (b < 256)
+    → (c ≡ getD s (i + 2) 0) × (c < 256) → (d ≡ getD s (i + 3) 0) × (d < 256) → Fed s i (a + b * 256 + c * 65536 + d * 16777216)
+fed s i {a} {b} {c} {d} h p q r t reg =
+    four reg a b c d (p .1) (q .1) (r .1) (t .1) ∙ ap (fcsRun reg) (rw (p .0, q .0, r .0, t .0) (sym (four-taken s i h)))
+
+-- the first four: added to the preset
+pub first-word : (s : List ℕ) (w : ℕ) → w < 4294967296 → Fed s 0 w → fcsBits 32 (bitXor w 65535) 0 ≡ fcsRun 65535 (take 4 s)
+first-word s w h e = ap (λ (z : ℕ). fcsBits 32 z 0) (xor-comm w 65535) ∙ sym (added 32 65535 w h) ∙ e 65535
+
+-- the next four: the register is folded, and they are added
+pub next-word : (s : List ℕ) (i x f w : ℕ) → w < 4294967296 → fcsBits 32 f 0 ≡ fcsBits 32 (fcsBits 32 x 0) 0 → Fed s i w
+    → fcsBits 32 (bitXor f w) 0 ≡ fcsRun (fcsBits 32 x 0) (take 4 (drop i s))
+next-word s i x f w h ef ew =
+    zeros-linear 32 f w ∙ ap (λ (z : ℕ). bitXor z (fcsBits 32 w 0)) ef ∙ sym (zeros-linear 32 (fcsBits 32 x 0) w)
+    ∙ sym (added 32 (fcsBits 32 x 0) w h) ∙ ew (fcsBits 32 x 0)
+
+-- so four octets less are left
+pub run-four : (s : List ℕ) (i reg next : ℕ) → next ≡ fcsRun reg (take 4 (drop i s)) → fcsRun next (drop (i + 4) s) ≡ fcsRun reg (drop i s)
+run-four s i reg next e =
+    ap (λ (z : ℕ). fcsRun z (drop (i + 4) s)) e ∙ sym (run-append reg (take 4 (drop i s)) (drop (i + 4) s))
+    ∙ ap (fcsRun reg) (ap (λ (l : List ℕ). take 4 (drop i s) ++ l) (sym (drop-drop 4 i s)) ∙ take-append-drop 4 (drop i s))
+
+pub eight-run : (s : List ℕ) (w f v : ℕ) {r : ℕ} → w < 4294967296 → v < 4294967296 → Fed s 0 w → fcsBits 32 f 0 ≡ fcsBits 32 (fcsBits 32 (bitXor w 65535) 0) 0 → Fed s 4 v
+    → r ≡ fcsBits 32 (bitXor f v) 0 → r ≡ fcsRun 65535 (take 8 s)
+eight-run s w f v {r} hw hv ew ef ev er =
+    er ∙ next-word s 4 (bitXor w 65535) f v hv ef ev ∙ ap (λ (z : ℕ). fcsRun z (take 4 (drop 4 s))) (first-word s w hw ew)
+    ∙ sym (run-append 65535 (take 4 s) (take 4 (drop 4 s))) ∙ ap (fcsRun 65535) (sym (take-add 4 4 s))
