@@ -9,6 +9,6 @@ fn main() {
     let crate_folder = env::var("CARGO_MANIFEST_DIR").unwrap();
     let library_folder = Path::new(&crate_folder).join("../target/staticlib");
     println!("cargo:rustc-link-search=native={}", library_folder.display());
-    println!("cargo:rustc-link-lib=static=card");
-    println!("cargo:rerun-if-changed={}", library_folder.join("libcard.a").display());
+    println!("cargo:rustc-link-lib=static=pelgrant");
+    println!("cargo:rerun-if-changed={}", library_folder.join("libpelgrant.a").display());
 }

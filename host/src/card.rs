@@ -3,7 +3,7 @@
 
 use crate::Calls;
 
-/// The library that `rt staticlib card` makes.
+/// The library that `host/build-library` makes.
 pub struct Card;
 
 mod c {
