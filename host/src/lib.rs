@@ -6,7 +6,9 @@ pub mod flat;
 pub mod watch;
 
 #[cfg(feature = "card")]
-pub mod card;
+pub mod abi;
+#[cfg(feature = "card")]
+pub mod yardstick;
 
 /// The calls of `pelgrant.h`, which says what each of them does. Every call answers a refusal
 /// number, 0 when done.

@@ -16,7 +16,7 @@ use arrivals::Arrivals;
 use cases::Cases;
 use inputs::{Draft, Faults, FLAT_13, FLAT_14, FLAT_16, FLAT_21};
 use lent::Lent;
-use pelgrant_host::card::Card;
+use pelgrant_host::abi::Card;
 use pelgrant_host::document::Coding;
 use pelgrant_host::flat::Document;
 use pelgrant_host::Calls;

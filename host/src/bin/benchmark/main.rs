@@ -1,0 +1,367 @@
+//! Times every call of the proved library beside the independent Rust, in one run, and prints
+//! Markdown tables. Buffers and records are made once for each measurement and used again, not
+//! cleared between calls.
+//!
+//! The comparison is fair: both are called through the same C boundary, which nothing is inlined
+//! across, and whatever is lent to them is hidden from the compiler in the same way.
+
+mod timing;
+mod works;
+
+use pelgrant_host::abi::{Card, Plain};
+use pelgrant_host::document::check_sequence;
+use pelgrant_host::flat::Document;
+use pelgrant_host::yardstick::Yardstick;
+use pelgrant_host::Calls;
+use timing::{best, Work, ROUND, ROUNDS};
+use works::*;
+
+/// Packets of 16 ms.
+const FRAMES_A_SECOND: f64 = 62.5;
+const SHORTEST: usize = 10;
+const LONGEST: usize = 490;
+const TYPE_S8: u8 = 0;
+const TYPE_21: u8 = 21;
+/// How often the Rust's time a call that is done may take, and one that is refused.
+const DONE_MARK: f64 = 1.0;
+const REFUSED_MARK: f64 = 1.25;
+
+/// The same work of the proved library and of the independent Rust.
+macro_rules! both {
+    ($work:ident $(, $argument:expr)*) => {
+        [$work(Card $(, $argument)*), $work(Plain $(, $argument)*)]
+    };
+}
+
+// ---- Frames ----
+
+/// Of 16 states and the default times, just started.
+const WATCH: [u64; 9] = [16, 10_000, 25_000, 0, 0, 0, 0, 0, 0];
+const RECORD: [u64; 6] = [100, 0, 0, 0, 0, 0];
+
+fn voice(coding: u8) -> Vec<u8> {
+    let (mut out, mut answer) = (vec![0; 138], [0]);
+    let Origin { samples, .. } = Origin::data(coding);
+    let number = Document.send(&mut 0, 0, coding, 3, &samples, 0, 0, 7, 128, &mut out, &mut answer);
+    assert_eq!(number, 0);
+    out.truncate(answer[0] as usize);
+    out
+}
+
+fn signalling() -> Vec<u8> {
+    let (mut out, mut answer) = (vec![0; 10], [0]);
+    assert_eq!(Document.signal_write(10, 0, 0, 7, 128, &mut out, &mut answer), 0);
+    out
+}
+
+/// The frame with one octet changed, brought to a length, and its check made right again.
+fn changed(frame: &[u8], at: usize, octet: u8, length: usize) -> Vec<u8> {
+    let mut frame = frame.to_vec();
+    frame[at] = octet;
+    frame.resize(length, 0x55);
+    let covered = if frame[2] == 239 { 8 } else { length - 2 };
+    let check = check_sequence(&frame[..covered]);
+    frame[length - 2..].copy_from_slice(&check.to_le_bytes());
+    frame
+}
+
+fn spoiled(mut frame: Vec<u8>) -> Vec<u8> {
+    let last = frame.len() - 1;
+    frame[last] ^= 1;
+    frame
+}
+
+// ---- Tables ----
+
+/// A row that stands above its mark, as it is listed at the end.
+fn above(what: &str, card: f64, rust: f64) -> String {
+    format!("{what}: {card:.1} ns, ratio {:.2}", card / rust)
+}
+
+/// Calls that are done, with those that took longer than their mark.
+struct Done {
+    yardstick: Yardstick,
+    above: Vec<String>,
+}
+
+impl Done {
+    fn row(&mut self, call: &str, frame: &str, [card, rust]: [Work; 2], bare: Option<Work>) {
+        let (card, rust, bare) = match bare {
+            Some(bare) => {
+                let [card, rust, bare] = best([card, rust, bare]);
+                (card, rust, format!("{bare:.1}"))
+            }
+            None => {
+                let [card, rust] = best([card, rust]);
+                (card, rust, "-".to_string())
+            }
+        };
+        let frames = 1e9 / card;
+        println!(
+            "| {call} | {frame} | {card:.1} | {rust:.1} | {:.2} | {bare} | {:.1} | {:.0} |",
+            card / rust,
+            frames / 1e6,
+            frames / FRAMES_A_SECOND
+        );
+        if card / rust > DONE_MARK {
+            self.above.push(above(&format!("{call}, {frame}"), card, rust));
+        }
+    }
+
+    fn table(&mut self) {
+        println!("| Call | Frame | Card, ns | Rust, ns | Ratio | C, ns | Million frames a second | Circuits a core |");
+        println!("|---|---|---:|---:|---:|---:|---:|---:|");
+        for (name, coding) in [("type 0, S = 8", TYPE_S8), ("type 21", TYPE_21)] {
+            self.voice_rows(name, coding);
+        }
+        self.signalling_rows();
+        self.row("fill", "none", both!(fill, 0), None);
+        self.row("noise_level", "none", both!(noise_level, 0), None);
+        self.row("fresh", "none", both!(fresh, 0), None);
+        self.row("watch_start", "none", both!(watch_start, 0), None);
+        self.row("watch_tell", "none, time passing", both!(watch_tell, 0, WATCH, 0), None);
+        self.row("watch_tell", "none, a transition", both!(watch_tell, 0, WATCH, 1), None);
+        self.row("watch_tell", "signalling, taken", both!(watch_tell, 0, WATCH, 2), None);
+    }
+
+    fn voice_rows(&mut self, name: &str, coding: u8) {
+        let (yardstick, origin, frame) = (self.yardstick, Origin::data(coding), voice(coding));
+        let check = || Some(bare_check(yardstick, &frame[..8]));
+        let two_checks = || Some(bare_forward(yardstick, &frame));
+        let reading = || Some(bare_read(yardstick, &frame));
+        self.row("send", name, both!(send, 0, &origin), Some(bare_send(yardstick, &origin)));
+        self.row("forward", name, both!(forward, 0, &frame, HOP, frame.len()), two_checks());
+        if coding == TYPE_21 {
+            let hop = Hop { level: 3, ..HOP };
+            self.row("forward", "type 21, level 3", both!(forward, 0, &frame, hop, frame.len()), two_checks());
+        }
+        self.row("read", name, both!(read, 0, &frame), reading());
+        self.row("arrive", name, both!(arrive, 0, RECORD, &frame, 0, 16), reading());
+        self.row("arrive_value", name, both!(arrive_value, 0, RECORD, &frame), reading());
+        self.row("link", name, both!(link, 0, &frame), check());
+        self.row("taken", name, both!(taken, 0, &frame), check());
+    }
+
+    fn signalling_rows(&mut self) {
+        let (yardstick, frame) = (self.yardstick, signalling());
+        let check = || Some(bare_check(yardstick, &frame[..8]));
+        let two_checks = Some(bare_forward(yardstick, &frame));
+        self.row("signal_write", "signalling", both!(signal_write, 0), check());
+        self.row("signal_read", "signalling", both!(signal_read, 0, &frame), check());
+        self.row("forward", "signalling", both!(forward, 0, &frame, HOP, frame.len()), two_checks);
+        self.row("link", "signalling", both!(link, 0, &frame), check());
+        self.row("taken", "signalling", both!(taken, 0, &frame), check());
+    }
+}
+
+struct RefusedRow {
+    what: String,
+    card: f64,
+    rust: f64,
+    check: f64,
+}
+
+impl RefusedRow {
+    fn is_above(&self) -> bool {
+        self.card / self.rust > REFUSED_MARK || self.card > self.check
+    }
+}
+
+/// A signalling frame whose check, over so many octets, is wrong.
+fn wrong_check(octets: usize) -> Vec<u8> {
+    spoiled(changed(&signalling(), 7, 10, octets + 2))
+}
+
+/// Refused calls, each beside what one check over its frame's own octets costs the card: that is
+/// measured by a signalling frame of the same length whose check is wrong.
+#[derive(Default)]
+struct Refused {
+    check_costs: Vec<(usize, f64)>,
+    rows: Vec<RefusedRow>,
+}
+
+impl Refused {
+    fn check_cost(&mut self, octets: usize) -> f64 {
+        let length = octets.clamp(SHORTEST, LONGEST);
+        if let Some((_, cost)) = self.check_costs.iter().find(|(known, _)| *known == length) {
+            return *cost;
+        }
+        let [cost] = best([link(Card, 4, &wrong_check(length - 2))]);
+        self.check_costs.push((length, cost));
+        cost
+    }
+
+    fn row(&mut self, number: u8, call: &str, frame: &str, octets: usize, works: [Work; 2]) {
+        let [card, rust] = best(works);
+        let check = self.check_cost(octets);
+        println!(
+            "| {number} | {call} | {frame} | {octets} | {card:.1} | {rust:.1} | {:.2} | {check:.1} |",
+            card / rust
+        );
+        self.rows.push(RefusedRow { what: format!("{call}, {number}, {frame}, {octets} octets"), card, rust, check });
+    }
+
+    fn greatest(&self, measure: impl Fn(&RefusedRow) -> f64) -> &RefusedRow {
+        self.rows.iter().max_by(|one, other| measure(one).total_cmp(&measure(other))).unwrap()
+    }
+
+    fn summary(&self) {
+        let show = |title: &str, row: &RefusedRow| {
+            println!("- {title}: {}: {:.1} ns; one check over its octets {:.1} ns.", row.what, row.card, row.check);
+        };
+        show("Dearest", self.greatest(|row| row.card));
+        show("Furthest above one check", self.greatest(|row| row.card - row.check));
+        for row in self.rows.iter().filter(|row| row.what.contains("empty") || row.what.contains("megabyte")) {
+            println!("- {}: {:.1} ns.", row.what, row.card);
+        }
+    }
+
+    fn table(&mut self) {
+        let (voice, signalling) = (voice(TYPE_S8), signalling());
+        let frames: [(u8, &str, Vec<u8>); 15] = [
+            (1, "empty", Vec::new()),
+            (1, "rubbish", vec![0x55; 491]),
+            (1, "a megabyte", vec![0x55; 1 << 20]),
+            (2, "signalling", changed(&signalling, 0, 5, LONGEST)),
+            (3, "neither kind", changed(&signalling, 2, 7, LONGEST)),
+            (4, "signalling", spoiled(changed(&signalling, 7, 10, LONGEST))),
+            (4, "voice", spoiled(voice.clone())),
+            (5, "signalling", changed(&signalling, 3, 0, LONGEST)),
+            (6, "voice", changed(&voice, 6, 31, LONGEST)),
+            (7, "signalling", changed(&signalling, 4, 1, LONGEST)),
+            (7, "voice", changed(&voice, 4, 1, LONGEST)),
+            (8, "signalling", changed(&signalling, 7, 10, LONGEST)),
+            (8, "voice", changed(&voice, 7, 3, LONGEST)),
+            (9, "signalling", changed(&signalling, 5, 201, signalling.len())),
+            (9, "voice", changed(&voice, 5, 201, voice.len())),
+        ];
+        println!(
+            "| No | Call | Frame | Octets | Card, ns | Rust, ns | Ratio | One check over its octets (8 to 488), ns |"
+        );
+        println!("|---:|---|---|---:|---:|---:|---:|---:|");
+        for (number, what, frame) in &frames {
+            self.row(*number, "forward", what, frame.len(), both!(forward, *number, frame, HOP, LONGEST));
+        }
+        for (number, what, hop, room) in [
+            (10, "voice, level 4", Hop { level: 4, ..HOP }, LONGEST),
+            (15, "voice, address 0", Hop { address: 0, ..HOP }, LONGEST),
+            (16, "voice, no room", HOP, voice.len() - 1),
+        ] {
+            self.row(number, "forward", what, voice.len(), both!(forward, number, &voice, hop, room));
+        }
+        for (number, what, frame) in &frames {
+            // An endpoint of a voice call tells a signalling frame by its kind alone.
+            let number = if *what == "signalling" && *number > 5 { 19 } else { *number };
+            self.row(number, "arrive", what, frame.len(), both!(arrive, number, RECORD, frame, 0, 0));
+        }
+        for (number, what, record, frame, clock) in [
+            (14, "voice, B 200", [200, 0, 0, 0, 0, 0], &voice, 0),
+            (17, "voice, stamp 150", RECORD, &changed(&voice, 5, 150, voice.len()), 0),
+            (18, "voice, clock back", [100, 0, 1000, 0, 0, 0], &voice, 999),
+            (20, "voice, too early", [100, 0, 1000, 1455, 0, 0], &voice, 1000),
+        ] {
+            self.row(number, "arrive", what, frame.len(), both!(arrive, number, record, frame, clock, 0));
+        }
+        let sound = Origin::data(TYPE_S8);
+        let mut loud = Origin::data(TYPE_21);
+        loud.samples[127] = 32;
+        for (number, what, origin) in [
+            (6, "coding 31", Origin { coding: 31, ..sound.clone() }),
+            (10, "level 4", Origin { hop: Hop { level: 4, ..HOP }, ..sound.clone() }),
+            (11, "last sample too great", loud),
+            (12, "noise 16", Origin { noise: 16, ..sound.clone() }),
+            (13, "START in a burst", Origin { step: 0, ..sound.clone() }),
+            (14, "SSEQ 16", Origin { sseq: 16, ..sound.clone() }),
+            (15, "address 0", Origin { hop: Hop { address: 0, ..HOP }, ..sound.clone() }),
+            (16, "no room", Origin { room: 137, ..sound.clone() }),
+        ] {
+            self.row(number, "send", what, voice.len(), both!(send, number, &origin));
+        }
+        println!();
+        self.summary();
+    }
+}
+
+/// The check sequence alone: the whole call that finds a check wrong, beside bare sums in C.
+fn check_table(yardstick: Yardstick) {
+    println!(
+        "| Octets | Card, ns | Rust, ns | C, one table, ns | C, four tables, ns \
+         | Card to Rust | Card to C, one table | Card to C, four tables |"
+    );
+    println!("|---:|---:|---:|---:|---:|---:|---:|---:|");
+    for octets in [8, 138, 488] {
+        let frame = wrong_check(octets);
+        let [card, rust] = both!(link, 4, &frame);
+        let (one, four) = (bare_check_by_octet(yardstick, &frame[..octets]), bare_check(yardstick, &frame[..octets]));
+        let [card, rust, one, four] = best([card, rust, one, four]);
+        println!(
+            "| {octets} | {card:.1} | {rust:.1} | {one:.1} | {four:.1} | {:.2} | {:.2} | {:.2} |",
+            card / rust,
+            card / one,
+            card / four
+        );
+    }
+}
+
+fn list(title: &str, rows: &[String]) {
+    println!("{title}:\n");
+    for row in rows {
+        println!("- {row}.");
+    }
+    if rows.is_empty() {
+        println!("- none.");
+    }
+}
+
+/// The processor's name and how many there are, as the kernel gives them.
+fn machine() -> String {
+    let facts = std::fs::read_to_string("/proc/cpuinfo").unwrap_or_default();
+    let names: Vec<&str> = facts.lines().filter(|line| line.starts_with("model name")).collect();
+    let name = names.first().and_then(|line| line.split(": ").nth(1)).unwrap_or("processor not named");
+    format!("{name}, {} logical processors", names.len())
+}
+
+fn main() {
+    let yardstick = Yardstick::tried();
+    println!("# Benchmark\n");
+    println!("Machine: {}.\n", machine());
+    println!(
+        "Card is the proved library, Rust the independent implementation built for release with all its \
+         optimisations, in one run. Both are called in the same flat form, pointers and lengths over a C \
+         boundary that nothing is inlined across, and every number, length and octet that is lent is hidden \
+         from the compiler at every call: neither knows anything of its caller. Nanoseconds a call, best of \
+         {ROUNDS} rounds of about {} ms, all in turn. Buffers and records are used again and not cleared. One \
+         core; a circuit is {FRAMES_A_SECOND} frames a second in each direction.\n",
+        ROUND.as_millis()
+    );
+    println!(
+        "The column C is a limit to look at, not a rival: what the bare work of the call costs in C written by \
+         hand with SSE2, where nothing is refused, no head is written and no record is kept. For send it is \
+         the packing of the samples and the check of the head's 8 octets; for read and the two arrivals that \
+         check and the reading of the samples; for forward two checks, that of the frame which came and that of \
+         the one which leaves, without the copy; for the others the one check. The checks are made four octets \
+         at a step with four tables.\n"
+    );
+    println!("## Frames and calls that are done\n");
+    let mut done = Done { yardstick, above: Vec::new() };
+    done.table();
+    println!("\n## Refused\n");
+    let mut refused = Refused::default();
+    refused.table();
+    println!("\n## The check sequence\n");
+    println!(
+        "Card and Rust: the whole call link on a signalling frame whose check over so many octets is wrong. C: \
+         the bare sum over them, with one table octet by octet and with four tables four octets at a step.\n"
+    );
+    check_table(yardstick);
+    println!("\n## Above the marks\n");
+    list(&format!("Done, above {DONE_MARK:.2} times the Rust"), &done.above);
+    println!();
+    let above: Vec<String> = refused
+        .rows
+        .iter()
+        .filter(|row| row.is_above())
+        .map(|row| format!("{}; one check {:.1} ns", above(&row.what, row.card, row.rust), row.check))
+        .collect();
+    list(&format!("Refused, above {REFUSED_MARK:.2} times the Rust or above one check over its octets"), &above);
+}

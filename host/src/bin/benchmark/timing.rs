@@ -1,0 +1,38 @@
+//! How long a work takes.
+
+use std::hint::black_box;
+use std::time::{Duration, Instant};
+
+pub const ROUNDS: usize = 50;
+pub const ROUND: Duration = Duration::from_millis(1);
+
+/// Does one thing so many times.
+pub type Work = Box<dyn FnMut(u64)>;
+
+fn nanoseconds(times: u64, work: &mut Work) -> f64 {
+    let start = Instant::now();
+    work(times);
+    start.elapsed().as_nanos() as f64 / times as f64
+}
+
+/// The best of several rounds for each of the works, taken in turn so that all meet the same machine.
+pub fn best<const N: usize>(mut works: [Work; N]) -> [f64; N] {
+    let times = works.each_mut().map(|work| (ROUND.as_nanos() as f64 / nanoseconds(1000, work)) as u64 + 1);
+    let mut best = [f64::INFINITY; N];
+    for _ in 0..ROUNDS {
+        for ((work, times), best) in works.iter_mut().zip(times).zip(&mut best) {
+            *best = best.min(nanoseconds(times, work));
+        }
+    }
+    best
+}
+
+/// Repeats one call, which must answer that number each time. All that is lent to it is hidden from the
+/// compiler afresh at each call: no number and no length is known, and everything is read from memory.
+pub fn repeated<T: 'static>(number: u8, mut lent: T, mut call: impl FnMut(&mut T) -> u8 + 'static) -> Work {
+    Box::new(move |times| {
+        for _ in 0..times {
+            assert_eq!(black_box(call(black_box(&mut lent))), number);
+        }
+    })
+}

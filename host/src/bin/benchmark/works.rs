@@ -1,0 +1,177 @@
+//! The works that are timed: each is one call, or the bare work of one in C, on buffers of its own.
+//!
+//! What is lent stands in vectors, not in arrays, so that its length is hidden with the rest.
+
+use crate::timing::{repeated, Work};
+use pelgrant_host::document::{Coding, SAMPLES};
+use pelgrant_host::yardstick::Yardstick;
+use pelgrant_host::Calls;
+
+/// Where a frame goes in these measurements: level, clock readings and outgoing address.
+#[derive(Clone, Copy)]
+pub struct Hop {
+    pub level: u8,
+    pub from: u32,
+    pub to: u32,
+    pub address: u16,
+}
+
+pub const HOP: Hop = Hop { level: 0, from: 100, to: 103, address: 200 };
+
+#[derive(Clone)]
+pub struct Origin {
+    pub sseq: u8,
+    pub step: u8,
+    pub coding: u8,
+    pub noise: u8,
+    pub samples: Vec<u8>,
+    pub hop: Hop,
+    pub room: usize,
+}
+
+fn sample_bits(coding: u8) -> u8 {
+    Coding::of(coding).map_or(8, |facts| facts.sample_bits)
+}
+
+impl Origin {
+    /// In the midst of a burst, every packet with more to follow.
+    pub fn data(coding: u8) -> Origin {
+        let samples = (0..128u32).map(|n| (n * 37) as u8 >> (8 - sample_bits(coding))).collect();
+        Origin { sseq: 1, step: 1, coding, noise: 3, samples, hop: HOP, room: 138 }
+    }
+}
+
+// ---- Calls ----
+
+pub fn send<C: Calls + 'static>(calls: C, number: u8, origin: &Origin) -> Work {
+    let lent = (origin.clone(), vec![0; origin.room], vec![0]);
+    repeated(number, lent, move |(origin, out, answer)| {
+        let Origin { sseq, step, coding, noise, samples, hop, .. } = origin;
+        calls.send(sseq, *step, *coding, *noise, samples, hop.level, hop.from, hop.to, hop.address, out, answer)
+    })
+}
+
+pub fn signal_write<C: Calls + 'static>(calls: C, number: u8) -> Work {
+    repeated(number, (10, 0, HOP, vec![0; 10], vec![0]), move |(bits, na, hop, out, answer)| {
+        calls.signal_write(*bits, *na, hop.from, hop.to, hop.address, out, answer)
+    })
+}
+
+pub fn forward<C: Calls + 'static>(calls: C, number: u8, frame: &[u8], hop: Hop, room: usize) -> Work {
+    repeated(number, (frame.to_vec(), hop, vec![0; room], vec![0]), move |(frame, hop, out, answer)| {
+        calls.forward(frame, hop.level, hop.from, hop.to, hop.address, out, answer)
+    })
+}
+
+pub fn read<C: Calls + 'static>(calls: C, number: u8, frame: &[u8]) -> Work {
+    repeated(number, (frame.to_vec(), vec![0; 2], vec![0; 128]), move |(frame, answer, samples)| {
+        calls.read(frame, answer, samples)
+    })
+}
+
+pub fn fresh<C: Calls + 'static>(calls: C, number: u8) -> Work {
+    repeated(number, (100, vec![0; 6]), move |(build_out, record)| calls.fresh(*build_out, record))
+}
+
+/// The first frame of a burst, every 16 ms, so that each is scheduled; a clock that stands still where refused.
+pub fn arrive<C: Calls + 'static>(calls: C, number: u8, record: [u64; 6], frame: &[u8], clock: u64, tick: u64) -> Work {
+    let lent = (record.to_vec(), frame.to_vec(), clock, vec![0; 4], vec![0; 128]);
+    repeated(number, lent, move |(record, frame, clock, answer, samples)| {
+        *clock += tick;
+        calls.arrive(record, frame, *clock, answer, samples)
+    })
+}
+
+/// The same, each record the one after the call before.
+pub fn arrive_value<C: Calls + 'static>(calls: C, number: u8, record: [u64; 6], frame: &[u8]) -> Work {
+    let lent = (record.to_vec(), frame.to_vec(), 0, vec![0; 6], vec![0; 4], vec![0; 128]);
+    repeated(number, lent, move |(record, frame, clock, after, answer, samples)| {
+        *clock += 16;
+        let number = calls.arrive_value(record, frame, *clock, after, answer, samples);
+        std::mem::swap(record, after);
+        number
+    })
+}
+
+pub fn signal_read<C: Calls + 'static>(calls: C, number: u8, frame: &[u8]) -> Work {
+    repeated(number, (100, frame.to_vec(), vec![0; 3]), move |(build_out, frame, answer)| {
+        calls.signal_read(*build_out, frame, answer)
+    })
+}
+
+pub fn fill<C: Calls + 'static>(calls: C, number: u8) -> Work {
+    let lent = (vec![1; 128], vec![2; 128], 1, vec![0; 128], vec![0]);
+    repeated(number, lent, move |(last, noise, m_last, out, answer)| calls.fill(last, noise, *m_last, out, answer))
+}
+
+pub fn noise_level<C: Calls + 'static>(calls: C, number: u8) -> Work {
+    repeated(number, (3, vec![0], vec![0.0]), move |(code, answer, level)| calls.noise_level(*code, answer, level))
+}
+
+pub fn link<C: Calls + 'static>(calls: C, number: u8, frame: &[u8]) -> Work {
+    repeated(number, (frame.to_vec(), vec![0; 2]), move |(frame, answer)| calls.link(frame, answer))
+}
+
+pub fn taken<C: Calls + 'static>(calls: C, number: u8, frame: &[u8]) -> Work {
+    repeated(number, (frame.to_vec(), vec![0; 3]), move |(frame, answer)| calls.taken(frame, answer))
+}
+
+pub fn watch_start<C: Calls + 'static>(calls: C, number: u8) -> Work {
+    let lent = (16, 10_000, 25_000, 0, vec![0; 9]);
+    repeated(number, lent, move |(states, refresh, keepalive, clock, watch)| {
+        calls.watch_start(*states, *refresh, *keepalive, *clock, watch)
+    })
+}
+
+/// An event every 3 ms; the bits of a reading are never those of the one before, so each is a transition.
+pub fn watch_tell<C: Calls + 'static>(calls: C, number: u8, watch: [u64; 9], event: u8) -> Work {
+    repeated(number, (watch.to_vec(), 0, event, 0, vec![0; 4]), move |(watch, clock, event, flag, answer)| {
+        *clock += 3;
+        calls.watch_tell(watch, *clock, *event, *clock as u8 & 15, *flag, answer)
+    })
+}
+
+// ---- Bare work in C, hidden from the compiler in the same way ----
+
+pub fn bare_check_by_octet(yardstick: Yardstick, octets: &[u8]) -> Work {
+    repeated(0, (octets.to_vec(), 0), move |(octets, check)| {
+        *check = yardstick.check_by_octet(octets);
+        0
+    })
+}
+
+pub fn bare_check(yardstick: Yardstick, octets: &[u8]) -> Work {
+    repeated(0, (octets.to_vec(), 0), move |(octets, check)| {
+        *check = yardstick.check_by_four(octets);
+        0
+    })
+}
+
+/// A node's: the check of the head that came, and that of the head that leaves.
+pub fn bare_forward(yardstick: Yardstick, frame: &[u8]) -> Work {
+    repeated(0, (frame[..8].to_vec(), frame[..8].to_vec(), [0; 2]), move |(came, leaves, checks)| {
+        *checks = [yardstick.check_by_four(came), yardstick.check_by_four(leaves)];
+        0
+    })
+}
+
+pub fn bare_send(yardstick: Yardstick, origin: &Origin) -> Work {
+    let bits = sample_bits(origin.coding);
+    let samples: [u8; SAMPLES] = origin.samples[..].try_into().unwrap();
+    let lent = (vec![0; 8], samples, bits, vec![0; 16 * usize::from(bits)], 0);
+    repeated(0, lent, move |(head, samples, bits, voice_field, check)| {
+        yardstick.pack(samples, *bits, voice_field);
+        *check = yardstick.check_by_four(head);
+        0
+    })
+}
+
+pub fn bare_read(yardstick: Yardstick, frame: &[u8]) -> Work {
+    let (head, voice_field) = frame[..frame.len() - 2].split_at(8);
+    let lent = (head.to_vec(), voice_field.to_vec(), sample_bits(head[6] & 31), 0, [0; SAMPLES]);
+    repeated(0, lent, move |(head, voice_field, bits, check, samples)| {
+        *check = yardstick.check_by_four(head);
+        yardstick.unpack(voice_field, *bits, samples);
+        0
+    })
+}
