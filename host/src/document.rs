@@ -165,7 +165,7 @@ fn unpack(voice_field: &[u8], sample_bits: u8) -> [u8; SAMPLES] {
     }
     let mut samples = [0; SAMPLES];
     for (column, eight) in samples.chunks_exact_mut(8).enumerate() {
-        eight.copy_from_slice(&transpose(planes.map(|plane| plane[column])));
+        eight.copy_from_slice(&transpose(std::array::from_fn(|bit| planes[bit][column])));
     }
     samples
 }
