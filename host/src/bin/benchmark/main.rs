@@ -73,9 +73,14 @@ fn spoiled(mut frame: Vec<u8>) -> Vec<u8> {
 
 // ---- Tables ----
 
+/// As it is printed, so that the list at the end says the same as the tables.
+fn ratio(card: f64, rust: f64) -> f64 {
+    (100.0 * card / rust).round() / 100.0
+}
+
 /// A row that stands above its mark, as it is listed at the end.
 fn above(what: &str, card: f64, rust: f64) -> String {
-    format!("{what}: {card:.1} ns, ratio {:.2}", card / rust)
+    format!("{what}: {card:.1} ns, ratio {:.2}", ratio(card, rust))
 }
 
 /// Calls that are done, with those that took longer than their mark.
@@ -99,11 +104,11 @@ impl Done {
         let frames = 1e9 / card;
         println!(
             "| {call} | {frame} | {card:.1} | {rust:.1} | {:.2} | {bare} | {:.1} | {:.0} |",
-            card / rust,
+            ratio(card, rust),
             frames / 1e6,
             frames / FRAMES_A_SECOND
         );
-        if card / rust > DONE_MARK {
+        if ratio(card, rust) > DONE_MARK {
             self.above.push(above(&format!("{call}, {frame}"), card, rust));
         }
     }
@@ -163,7 +168,7 @@ struct RefusedRow {
 
 impl RefusedRow {
     fn is_above(&self) -> bool {
-        self.card / self.rust > REFUSED_MARK || self.card > self.check
+        ratio(self.card, self.rust) > REFUSED_MARK || self.card > self.check
     }
 }
 
@@ -173,30 +178,19 @@ fn wrong_check(octets: usize) -> Vec<u8> {
 }
 
 /// Refused calls, each beside what one check over its frame's own octets costs the card: that is
-/// measured by a signalling frame of the same length whose check is wrong.
+/// measured in turn with it, by a signalling frame of the same length whose check is wrong.
 #[derive(Default)]
 struct Refused {
-    check_costs: Vec<(usize, f64)>,
     rows: Vec<RefusedRow>,
 }
 
 impl Refused {
-    fn check_cost(&mut self, octets: usize) -> f64 {
-        let length = octets.clamp(SHORTEST, LONGEST);
-        if let Some((_, cost)) = self.check_costs.iter().find(|(known, _)| *known == length) {
-            return *cost;
-        }
-        let [cost] = best([link(Card, 4, &wrong_check(length - 2))]);
-        self.check_costs.push((length, cost));
-        cost
-    }
-
-    fn row(&mut self, number: u8, call: &str, frame: &str, octets: usize, works: [Work; 2]) {
-        let [card, rust] = best(works);
-        let check = self.check_cost(octets);
+    fn row(&mut self, number: u8, call: &str, frame: &str, octets: usize, [card, rust]: [Work; 2]) {
+        let check = link(Card, 4, &wrong_check(octets.clamp(SHORTEST, LONGEST) - 2));
+        let [card, rust, check] = best([card, rust, check]);
         println!(
             "| {number} | {call} | {frame} | {octets} | {card:.1} | {rust:.1} | {:.2} | {check:.1} |",
-            card / rust
+            ratio(card, rust)
         );
         self.rows.push(RefusedRow { what: format!("{call}, {number}, {frame}, {octets} octets"), card, rust, check });
     }
