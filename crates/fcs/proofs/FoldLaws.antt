@@ -111,34 +111,51 @@ fold-linear n a b c d e =
 abbrev pub fold16 : ℕ → ℕ
 fold16 = fold 16 4 8 11 5 12
 
-abbrev pub fold32 : ℕ → ℕ
-fold32 = fold 32 8 16 22 10 24
-
 pub by-fold16 : (x : ℕ) → x < 65536 → fold16 x ≡ fcsBits 16 x 0
 unfolding fold fcsBits fcsStep tab
 by-fold16 x h =
     same fold16 (λ x. fcsBits 16 x 0) (fold-linear 16 4 8 11 5 12) (zeros-linear 16) refl 16
     (agree (λ i. fold16 (2 ^ i)) (λ i. fcsBits 16 (2 ^ i) 0) 16 refl) x h
 
-pub by-fold32 : (x : ℕ) → x < 4294967296 → fcsBits 32 (fold32 x) 0 ≡ fcsBits 32 (fcsBits 32 x 0) 0
+-- of n bits, one that n zero bits bring to where as many again bring the first
+pub by-fold : (n a b c d e : ℕ) → tab (λ i. fcsBits n (fold n a b c d e (2 ^ i)) 0) n ≡ tab (λ i. fcsBits n (fcsBits n (2 ^ i) 0) 0) n
+    → fcsBits n (fold n a b c d e 0) 0 ≡ fcsBits n (fcsBits n 0 0) 0
+    → (x : ℕ) → x < 2 ^ n → fcsBits n (fold n a b c d e x) 0 ≡ fcsBits n (fcsBits n x 0) 0
+by-fold n a b c d e bits none x h =
+    same (λ x. fcsBits n (fold n a b c d e x) 0) (λ x. fcsBits n (fcsBits n x 0) 0)
+    (comp (λ x. fcsBits n x 0) (fold n a b c d e) (zeros-linear n) (fold-linear n a b c d e))
+    (comp (λ x. fcsBits n x 0) (λ x. fcsBits n x 0) (zeros-linear n) (zeros-linear n)) none n
+    (agree (λ i. fcsBits n (fold n a b c d e (2 ^ i)) 0) (λ i. fcsBits n (fcsBits n (2 ^ i) 0) 0) n bits) x h
+
+pub by-fold32 : (x : ℕ) → x < 4294967296 → fcsBits 32 (fold 32 8 16 22 10 24 x) 0 ≡ fcsBits 32 (fcsBits 32 x 0) 0
 unfolding fold fcsBits fcsStep tab
-by-fold32 x h =
-    same (λ x. fcsBits 32 (fold32 x) 0) (λ x. fcsBits 32 (fcsBits 32 x 0) 0)
-    (comp (λ x. fcsBits 32 x 0) fold32 (zeros-linear 32) (fold-linear 32 8 16 22 10 24))
-    (comp (λ x. fcsBits 32 x 0) (λ x. fcsBits 32 x 0) (zeros-linear 32) (zeros-linear 32)) refl 32
-    (agree (λ i. fcsBits 32 (fold32 (2 ^ i)) 0) (λ i. fcsBits 32 (fcsBits 32 (2 ^ i) 0) 0) 32 refl) x h
+by-fold32 x h = by-fold 32 8 16 22 10 24 refl refl x h
 
--- 32 zero bits are sixteen twice, the high half only moving down in the first
-pub twice : (x : ℕ) {first last : ℕ} → first ≡ fcsBits 16 (x % 65536) 0 → last ≡ fcsBits 16 (bitXor (x / 65536) first) 0 → last ≡ fcsBits 32 x 0
-twice x {first} {last} p q =
-    q ∙ ap (λ (z : ℕ). fcsBits 16 z 0)
-    (ap (bitXor (x / 65536)) p ∙ sym (moved 16 (x / 65536) (x % 65536))
-    ∙ ap (λ (z : ℕ). fcsBits 16 z 0) (xor-shifted (x / 65536) 16 (x % 65536) (mod-lt x (pow-pos 16)) ∙ split x 16))
-    ∙ sym (joined 16 16 x 0 0 (pow-pos 16))
+bits64 : tab (λ i. fcsBits 64 (fold 64 16 32 44 20 48 (2 ^ i)) 0) 64 ≡ tab (λ i. fcsBits 64 (fcsBits 64 (2 ^ i) 0) 0) 64
+unfolding fold fcsBits fcsStep tab
+bits64 = refl
 
--- ---- four octets as one number
+none64 : fcsBits 64 (fold 64 16 32 44 20 48 0) 0 ≡ fcsBits 64 (fcsBits 64 0 0) 0
+unfolding fold fcsBits fcsStep
+none64 = refl
 
-pub four : (reg a b c d : ℕ) → a < 256 → b < 256 → c < 256 → d < 256
+pub by-fold64 : (x : ℕ) → x < 18446744073709551616 → fcsBits 64 (fold 64 16 32 44 20 48 x) 0 ≡ fcsBits 64 (fcsBits 64 x 0) 0
+by-fold64 x h = by-fold 64 16 32 44 20 48 bits64 none64 x h
+
+-- a register of twice n bits: the high half only moves down while n zero bits are fed, and f stands for what they make of the low one
+pub twice : (n x f : ℕ) {r : ℕ} → fcsBits n f 0 ≡ fcsBits n (fcsBits n (x % 2 ^ n) 0) 0 → r ≡ fcsBits n (bitXor (x / 2 ^ n) f) 0 → r ≡ fcsBits (n + n) x 0
+twice n x f {r} p q =
+    let high = x / 2 ^ n in
+    let low = x % 2 ^ n in
+    let none : 0 * 2 ^ n + 0 ≡ 0 = ap (λ (z : ℕ). z + 0) (zero-mul (2 ^ n)) in
+    q ∙ zeros-linear n high f ∙ ap (bitXor (fcsBits n high 0)) p ∙ sym (zeros-linear n high (fcsBits n low 0))
+    ∙ ap (λ (z : ℕ). fcsBits n z 0)
+    (sym (moved n high low) ∙ ap (λ (z : ℕ). fcsBits n z 0) (xor-shifted high n low (mod-lt x (pow-pos n)) ∙ split x n))
+    ∙ sym (joined n n x 0 0 (pow-pos n)) ∙ ap (fcsBits (n + n) x) none
+
+-- ---- four octets as one number, and eight
+
+four : (reg a b c d : ℕ) → a < 256 → b < 256 → c < 256 → d < 256
     → fcsBits 32 reg (a + b * 256 + c * 65536 + d * 16777216) ≡ fcsRun reg (a ∷ b ∷ c ∷ d ∷ [])
 unfolding fcsRun
 four reg a b c d ha hb hc hd =
@@ -149,41 +166,47 @@ four reg a b c d ha hb hc hd =
     ∙ ap (fcsBits 24 (fcsBits 8 reg a)) f ∙ joined 8 16 (fcsBits 8 reg a) b (c + d * 256) hb
     ∙ ap (fcsBits 16 (fcsBits 8 (fcsBits 8 reg a) b)) g ∙ joined 8 8 (fcsBits 8 (fcsBits 8 reg a) b) c d hc
 
-pub four-taken : (s : List ℕ) (i : ℕ) → i + 4 ≤ length s → take 4 (drop i s) ≡ getD s i 0 ∷ getD s (i + 1) 0 ∷ getD s (i + 2) 0 ∷ getD s (i + 3) 0 ∷ []
+four-taken : (s : List ℕ) (i : ℕ) → i + 4 ≤ length s → take 4 (drop i s) ≡ getD s i 0 ∷ getD s (i + 1) 0 ∷ getD s (i + 2) 0 ∷ getD s (i + 3) 0 ∷ []
 four-taken s i h =
     let p : i + 1 ≡ suc i = omega arith in
     let q : i + 2 ≡ suc (suc i) = omega arith in
     let r : i + 3 ≡ suc (suc (suc i)) = omega arith in
     rw (p, q, r, drop-cons s i 0 (omega arith), drop-cons s (suc i) 0 (omega arith), drop-cons s (suc (suc i)) 0 (omega arith), drop-cons s (suc (suc (suc i))) 0 (omega arith))
 
--- what four octets from i on make of any register, as a number that is fed to it
-abbrev pub Fed : List ℕ → ℕ → ℕ → Type 0
-Fed s i w = (reg : ℕ) → fcsBits 32 reg w ≡ fcsRun reg (take 4 (drop i s))
+-- what k octets from i on make of any register, as a number whose n bits are fed to it
+abbrev pub Fed : ℕ → ℕ → List ℕ → ℕ → ℕ → Type 0
+Fed n k s i w = (reg : ℕ) → fcsBits n reg w ≡ fcsRun reg (take k (drop i s))
 
 pub fed : (s : List ℕ) (i : ℕ) {a b c d : ℕ} → i + 4 ≤ length s → (a ≡ getD s i 0) × (a < 256) → (b ≡ getD s (i + 1) 0) × (b < 256)
-    → (c ≡ getD s (i + 2) 0) × (c < 256) → (d ≡ getD s (i + 3) 0) × (d < 256) → Fed s i (a + b * 256 + c * 65536 + d * 16777216)
-fed s i {a} {b} {c} {d} h p q r t reg =
-    four reg a b c d (p .1) (q .1) (r .1) (t .1) ∙ ap (fcsRun reg) (rw (p .0, q .0, r .0, t .0) (sym (four-taken s i h)))
+    → (c ≡ getD s (i + 2) 0) × (c < 256) → (d ≡ getD s (i + 3) 0) × (d < 256)
+    → (a + b * 256 + c * 65536 + d * 16777216 < 4294967296) × Fed 32 4 s i (a + b * 256 + c * 65536 + d * 16777216)
+fed s i {a} {b} {c} {d} h p q r t = (
+  omega arith,
+  λ reg. four reg a b c d (p .1) (q .1) (r .1) (t .1) ∙ ap (fcsRun reg) (rw (p .0, q .0, r .0, t .0) (sym (four-taken s i h))),
+)
 
--- the first four: added to the preset
-pub first-word : (s : List ℕ) (w : ℕ) → w < 4294967296 → Fed s 0 w → fcsBits 32 (bitXor w 65535) 0 ≡ fcsRun 65535 (take 4 s)
-first-word s w h e = ap (λ (z : ℕ). fcsBits 32 z 0) (xor-comm w 65535) ∙ sym (added 32 65535 w h) ∙ e 65535
+pub fed-both : (s : List ℕ) (i low high : ℕ) → (low < 4294967296) × Fed 32 4 s i low → (high < 4294967296) × Fed 32 4 s (i + 4) high
+    → Fed 64 8 s i (low + high * 4294967296)
+fed-both s i low high p q reg =
+    let e : low + high * 4294967296 ≡ high * 4294967296 + low = omega arith in
+    ap (fcsBits 64 reg) e ∙ joined 32 32 reg low high (p .0) ∙ q .1 (fcsBits 32 reg low)
+    ∙ ap (λ (z : ℕ). fcsRun z (take 4 (drop (i + 4) s))) (p .1 reg)
+    ∙ ap (λ (l : List ℕ). fcsRun (fcsRun reg (take 4 (drop i s))) (take 4 l)) (sym (drop-drop 4 i s))
+    ∙ sym (run-append reg (take 4 (drop i s)) (take 4 (drop 4 (drop i s)))) ∙ ap (fcsRun reg) (sym (take-add 4 4 (drop i s)))
 
--- the next four: the register is folded, and they are added
-pub next-word : (s : List ℕ) (i x f w : ℕ) → w < 4294967296 → fcsBits 32 f 0 ≡ fcsBits 32 (fcsBits 32 x 0) 0 → Fed s i w
-    → fcsBits 32 (bitXor f w) 0 ≡ fcsRun (fcsBits 32 x 0) (take 4 (drop i s))
-next-word s i x f w h ef ew =
-    zeros-linear 32 f w ∙ ap (λ (z : ℕ). bitXor z (fcsBits 32 w 0)) ef ∙ sym (zeros-linear 32 (fcsBits 32 x 0) w)
-    ∙ sym (added 32 (fcsBits 32 x 0) w h) ∙ ew (fcsBits 32 x 0)
+-- the first eight: added to the preset
+pub first-eight : (s : List ℕ) (w : ℕ) → w < 18446744073709551616 → Fed 64 8 s 0 w → fcsBits 64 (bitXor w 65535) 0 ≡ fcsRun 65535 (take 8 s)
+first-eight s w h e = ap (λ (z : ℕ). fcsBits 64 z 0) (xor-comm w 65535) ∙ sym (added 64 65535 w h) ∙ e 65535
 
--- so four octets less are left
-pub run-four : (s : List ℕ) (i reg next : ℕ) → next ≡ fcsRun reg (take 4 (drop i s)) → fcsRun next (drop (i + 4) s) ≡ fcsRun reg (drop i s)
-run-four s i reg next e =
-    ap (λ (z : ℕ). fcsRun z (drop (i + 4) s)) e ∙ sym (run-append reg (take 4 (drop i s)) (drop (i + 4) s))
-    ∙ ap (fcsRun reg) (ap (λ (l : List ℕ). take 4 (drop i s) ++ l) (sym (drop-drop 4 i s)) ∙ take-append-drop 4 (drop i s))
+-- the next eight: the register is folded, and they are added
+pub next-eight : (s : List ℕ) (i x f w : ℕ) → w < 18446744073709551616 → fcsBits 64 f 0 ≡ fcsBits 64 (fcsBits 64 x 0) 0 → Fed 64 8 s i w
+    → fcsBits 64 (bitXor f w) 0 ≡ fcsRun (fcsBits 64 x 0) (take 8 (drop i s))
+next-eight s i x f w h ef ew =
+    zeros-linear 64 f w ∙ ap (λ (z : ℕ). bitXor z (fcsBits 64 w 0)) ef ∙ sym (zeros-linear 64 (fcsBits 64 x 0) w)
+    ∙ sym (added 64 (fcsBits 64 x 0) w h) ∙ ew (fcsBits 64 x 0)
 
-pub eight-run : (s : List ℕ) (w f v : ℕ) {r : ℕ} → w < 4294967296 → v < 4294967296 → Fed s 0 w → fcsBits 32 f 0 ≡ fcsBits 32 (fcsBits 32 (bitXor w 65535) 0) 0 → Fed s 4 v
-    → r ≡ fcsBits 32 (bitXor f v) 0 → r ≡ fcsRun 65535 (take 8 s)
-eight-run s w f v {r} hw hv ew ef ev er =
-    er ∙ next-word s 4 (bitXor w 65535) f v hv ef ev ∙ ap (λ (z : ℕ). fcsRun z (take 4 (drop 4 s))) (first-word s w hw ew)
-    ∙ sym (run-append 65535 (take 4 s) (take 4 (drop 4 s))) ∙ ap (fcsRun 65535) (sym (take-add 4 4 s))
+-- so eight octets less are left
+pub run-eight : (s : List ℕ) (i reg next : ℕ) → next ≡ fcsRun reg (take 8 (drop i s)) → fcsRun next (drop (i + 8) s) ≡ fcsRun reg (drop i s)
+run-eight s i reg next e =
+    ap (λ (z : ℕ). fcsRun z (drop (i + 8) s)) e ∙ sym (run-append reg (take 8 (drop i s)) (drop (i + 8) s))
+    ∙ ap (fcsRun reg) (ap (λ (l : List ℕ). take 8 (drop i s) ++ l) (sym (drop-drop 8 i s)) ∙ take-append-drop 8 (drop i s))

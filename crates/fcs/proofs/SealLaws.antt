@@ -23,11 +23,15 @@ tested n f at-low low at-high high first check =
     sym (take-take (min n (length f)) n f (omega arith)) ∙ take-all (min n (length f)) (take n f) (omega (arith, length-take n f)) in
     cc
 
--- the seal as it is put: two stores in a row
-pub put : (n at : ℕ) (f : List ℕ) {check : ℕ} → at + 2 ≤ length f → check ≡ fcsOf (take n f)
-    → set (set f at (check % 256)) (at + 1) (check / 256) ≡ take at f ++ fcsOctets (take n f) ++ drop (at + 2) f
+-- two stores in a row
+pub stored : (at : ℕ) (f : List ℕ) (x y : ℕ) → at + 2 ≤ length f → set (set f at x) (at + 1) y ≡ take at f ++ (x ∷ y ∷ []) ++ drop (at + 2) f
+stored at f x y h = rw add-one (sets-eq (x ∷ y ∷ []) f at h)
+
+-- the seal: what is put is the check
+pub sealed : (n at : ℕ) (f g : List ℕ) {check : ℕ} → check ≡ fcsOf (take n f) → g ≡ take at f ++ (check % 256 ∷ check / 256 ∷ []) ++ drop (at + 2) f
+    → g ≡ take at f ++ fcsOctets (take n f) ++ drop (at + 2) f
 unfolding fcsOctets
-put n at f {check} h e = rw (add-one, ← e) (sets-eq (check % 256 ∷ check / 256 ∷ []) f at h)
+sealed n at f g e p = p ∙ ap (λ (k : ℕ). take at f ++ (k % 256 ∷ k / 256 ∷ []) ++ drop (at + 2) f) e
 
 -- the check that a sealed list sends
 pub sent : (l p : List ℕ) → sentCheck (l ++ fcsOctets p) ≡ fcsOf p

@@ -1,7 +1,7 @@
 // The check sequence of ISO 3309: worked out over octets, tested on a frame, and put into one.
 ghost use mathlib.Core.Path.{_≡_};
-ghost use mathlib.Core.List.{_++_};
-ghost use Prim.Native.Nat.{ℕ, _+_, _<_, _≤_};
+ghost use mathlib.Core.List.{[], _∷_, _++_};
+ghost use Prim.Native.Nat.{ℕ, _+_, _/_, _%_, _<_, _≤_};
 ghost use lib.ListN.{length, take, drop};
 ghost use Rattle.fcs.specs.Fcs.{fcsBits, fcsRun, fcsOf, fcsOctets, fcsGood};
 
@@ -24,8 +24,8 @@ fn sixteen(a: u16) -> u16
 }
 
 // Of a register of 32 bits, one that 32 zero bits bring to where 64 bring the first. The generator's square is
-// x^32 + x^24 + x^10 + 1, so the shifts are twice those above, and four octets take one step.
-fn folded(a: u32) -> u32
+// x^32 + x^24 + x^10 + 1, so the shifts are twice those above.
+fn folded_32(a: u32) -> u32
     ensures { λ r. ⌜ fcsBits 32 r 0 ≡ fcsBits 32 (fcsBits 32 a 0) 0 ⌝ }
 {
     let t = a ^ (a << 8);
@@ -33,26 +33,49 @@ fn folded(a: u32) -> u32
     q ^ (q >> 10) ^ (q >> 24)
 }
 
-// Thirty-two zero bits, fed to a register of 32.
-fn ended(a: u32) -> u16
+// The same of 64 bits, by twice the shifts again: eight octets take one step.
+fn folded_64(a: u64) -> u64
+    ensures { λ r. ⌜ fcsBits 64 r 0 ≡ fcsBits 64 (fcsBits 64 a 0) 0 ⌝ }
+{
+    let t = a ^ (a << 16);
+    let q = t ^ (t << 32) ^ (a << 44);
+    q ^ (q >> 20) ^ (q >> 48)
+}
+
+// As many zero bits as the register has, fed to it half by half.
+fn ended_32(a: u32) -> u16
     ensures { λ r. ⌜ r ≡ fcsBits 32 a 0 ⌝ }
 {
     let low = sixteen((a % 65536) as u16);
     sixteen(((a / 65536) as u16) ^ low)
 }
 
-fn wide(x: u8) -> u32
-    ensures { λ r. ⌜ (r ≡ x) × (r < 256) ⌝ }
+fn ended_64(a: u64) -> u16
+    ensures { λ r. ⌜ r ≡ fcsBits 64 a 0 ⌝ }
 {
-    x as u32
+    let low = folded_32((a % 4294967296) as u32);
+    ended_32(((a / 4294967296) as u32) ^ low)
 }
 
-// Four octets from i on, the first the lowest.
-fn word(s: &[u8], i: usize) -> u32
+fn wide(x: u8) -> u64
+    ensures { λ r. ⌜ (r ≡ x) × (r < 256) ⌝ }
+{
+    x as u64
+}
+
+// Four octets from i on, and eight, as one number, the first the lowest.
+fn four(s: &[u8], i: usize) -> u64
     requires { ⌜ i + 4 ≤ length (now s) ⌝ }
-    ensures { λ r. ⌜ ((reg : ℕ) → fcsBits 32 reg r ≡ fcsRun reg (take 4 (drop i (now (s .entry))))) ⌝ }
+    ensures { λ r. ⌜ (r < 4294967296) × ((reg : ℕ) → fcsBits 32 reg r ≡ fcsRun reg (take 4 (drop i (now (s .entry))))) ⌝ }
 {
     wide(s[i]) + wide(s[i + 1]) * 256 + wide(s[i + 2]) * 65536 + wide(s[i + 3]) * 16777216
+}
+
+fn eight(s: &[u8], i: usize) -> u64
+    requires { ⌜ i + 8 ≤ length (now s) ⌝ }
+    ensures { λ r. ⌜ ((reg : ℕ) → fcsBits 64 reg r ≡ fcsRun reg (take 8 (drop i (now (s .entry))))) ⌝ }
+{
+    four(s, i) + four(s, i + 4) * 4294967296
 }
 
 // The octets from `from` on, one by one.
@@ -72,25 +95,31 @@ fn rest(s: &[u8], from: usize, before: u16) -> u16
 pub fn fcs(s: &[u8]) -> u16
     ensures { λ r. ⌜ r ≡ fcsOf (now (s .entry)) ⌝ }
 {
-    if s.len() < 4 {
+    if s.len() < 8 {
         return 65535 - rest(s, 0, 65535);
     }
-    let mut reg = word(s, 0) ^ 65535;
-    let mut i: usize = 4;
-    while 4 <= s.len() - i {
-        reg = folded(reg) ^ word(s, i);
-        i += 4;
+    let mut reg = eight(s, 0) ^ 65535;
+    let mut i: usize = 8;
+    while 8 <= s.len() - i {
+        reg = folded_64(reg) ^ eight(s, i);
+        i += 8;
     }
-    65535 - rest(s, i, ended(reg))
+    65535 - rest(s, i, ended_64(reg))
 }
 
-// The check of eight octets, with no loop.
-fn eight(s: &[u8]) -> u16
+// The check of eight octets, with no loop: of a voice frame, and of every signalling frame that is taken.
+fn of_eight(s: &[u8]) -> u16
     requires { ⌜ 8 ≤ length (now s) ⌝ }
     ensures { λ r. ⌜ r ≡ fcsOf (take 8 (now (s .entry))) ⌝ }
 {
-    let reg = word(s, 0) ^ 65535;
-    65535 - ended(folded(reg) ^ word(s, 4))
+    65535 - ended_64(eight(s, 0) ^ 65535)
+}
+
+// The check of a frame's head that is not yet in memory.
+pub fn head(octets: [u8; 8]) -> u16
+    ensures { λ r. ⌜ r ≡ fcsOf octets ⌝ }
+{
+    of_eight(&octets)
 }
 
 fn first(s: &[u8], n: usize) -> u16
@@ -98,7 +127,7 @@ fn first(s: &[u8], n: usize) -> u16
     ensures { λ r. ⌜ r ≡ fcsOf (take n (now (s .entry))) ⌝ }
 {
     if n == 8 {
-        return eight(s);
+        return of_eight(s);
     }
     fcs(&s[..n])
 }
@@ -115,12 +144,20 @@ pub fn good(frame: &[u8], n: usize) -> bool
     low + 256 * high == check as usize
 }
 
-// Puts the check of the first n octets of out at `at`. The node's and the origin's proofs show the room.
+// A check at `at`, the low octet first. The node's proof shows the room.
+pub fn put(out: &mut [u8], check: u16, at: usize)
+    requires { ⌜ at + 2 ≤ length (now out) ⌝ }
+    ensures { λ _. ⌜ now (out .exit) ≡ take at (now (out .entry)) ++ (check % 256 ∷ check / 256 ∷ []) ++ drop (at + 2) (now (out .entry)) ⌝ }
+{
+    out[at] = (check % 256) as u8;
+    out[at + 1] = (check / 256) as u8;
+}
+
+// Puts the check of the first n octets of out at `at`. The origin's proofs show the room.
 pub fn seal(out: &mut [u8], n: usize, at: usize)
     requires { ⌜ (n ≤ at) × (at + 2 ≤ length (now out)) ⌝ }
     ensures { λ _. ⌜ now (out .exit) ≡ take at (now (out .entry)) ++ fcsOctets (take n (now (out .entry))) ++ drop (at + 2) (now (out .entry)) ⌝ }
 {
     let check = first(out, n);
-    out[at] = (check % 256) as u8;
-    out[at + 1] = (check / 256) as u8;
+    put(out, check, at);
 }

@@ -1,36 +1,30 @@
--- `fcs::eight` meets its contract.
-use mathlib.Core.Path.{ap}
-use Prim.Native.Nat.{ℕ, _-_}
+-- `fcs::eight` meets its contract: four octets twice.
 use native.Mathlib.Omega.{arith}
-use borrow.Author.Needs.{needs}
-use Rattle.fcs.specs.Fcs.{fcsOf}
-use Rattle.fcs.proofs.FoldLaws.{eight-run}
+use Rattle.fcs.proofs.FoldLaws.{fed-both}
 use Rattle.fcs.proofs.eight.Statement.{statement}
 use Rattle.fcs.proofs.eight.Tie as tie
 
-word-requires : tie.Need-word-requires
-word-requires c κs = omega arith
+four-requires : tie.Need-four-requires
+four-requires c κs = omega arith
 
-folded-requires : tie.Need-folded-requires
-folded-requires c κs = tt
+add-four : tie.Need-add-four
+add-four c = omega arith
 
-word-requires-2 : tie.Need-word-requires-2
-word-requires-2 c κs = omega arith
+four-requires-2 : tie.Need-four-requires-2
+four-requires-2 c κs = omega arith
 
-ended-requires : tie.Need-ended-requires
-ended-requires c κs = tt
+mul-result : tie.Need-mul-result
+mul-result c = omega arith
 
-sub-result : tie.Need-sub-result
-sub-result c = search needs
+add-result : tie.Need-add-result
+add-result c = omega arith
 
 returns : tie.Need-returns
-unfolding fcsOf
 returns c =
-    let second = c .before in
-    let fold = second .before in
-    let one = fold .before in
-    let a = one .before .before .args in
-    ap (λ (x : ℕ). 65535 - x) (eight-run (a .s .now) (one .word .result) (fold .folded .result) (second .word2 .result) (omega arith) (omega arith) (one .word .ensures) (fold .folded .ensures) (second .word2 .ensures) (c .ended .ensures))
+    let low = c .before in
+    let a = low .before .before .args in
+    fed-both (a .s .now) (a .i) (low .four .result) (c .four2 .result) (low .four .ensures) (c .four2 .ensures)
 
 pub eight-spec : {M : Type 1} → statement M
-eight-spec = tie.close (tie.spec word-requires folded-requires word-requires-2 ended-requires sub-result returns)
+eight-spec =
+    tie.close (tie.spec four-requires add-four four-requires-2 mul-result add-result returns)

@@ -8,13 +8,13 @@ use Rattle.fcs.specs.Fcs.{fcsOf}
 use Rattle.fcs.proofs.first.Statement.{statement}
 use Rattle.fcs.proofs.first.Tie as tie
 
-eight-requires : tie.Need-eight-requires
-eight-requires c κs = omega arith
+of-eight-requires : tie.Need-of-eight-requires
+of-eight-requires c κs = omega arith
 
 returns : tie.Need-returns
 returns c =
     let a = c .before .before .before .args in
-    c .eight .ensures ∙ ap (λ (n : ℕ). fcsOf (take n (a .s .now))) (sym (c .before .if1 .taken))
+    c .of-eight .ensures ∙ ap (λ (n : ℕ). fcsOf (take n (a .s .now))) (sym (c .before .if1 .taken))
 
 slice-aggregate-fcs : tie.Need-slice-aggregate-fcs
 slice-aggregate-fcs c = sym (length-take-le _ _ (omega arith))
@@ -26,4 +26,4 @@ returns-2 : tie.Need-returns-2
 returns-2 c = c .fcs .ensures
 
 pub first-spec : {M : Type 1} → statement M
-first-spec = tie.close (tie.spec eight-requires returns slice-aggregate-fcs fcs-requires returns-2)
+first-spec = tie.close (tie.spec of-eight-requires returns slice-aggregate-fcs fcs-requires returns-2)

@@ -1,9 +1,9 @@
--- `fcs::word` meets its contract.
+-- `fcs::four` meets its contract.
 use native.Mathlib.Omega.{arith}
-use borrow.Author.Needs.{needs}
 use Rattle.fcs.proofs.FoldLaws.{fed}
-use Rattle.fcs.proofs.word.Statement.{statement}
-use Rattle.fcs.proofs.word.Tie as tie
+use borrow.Author.Needs.{needs}
+use Rattle.fcs.proofs.four.Statement.{statement}
+use Rattle.fcs.proofs.four.Tie as tie
 
 shared-slice-read-wide : tie.Need-shared-slice-read-wide
 shared-slice-read-wide c = search needs
@@ -64,8 +64,8 @@ returns c =
     let a = first .before .before .before .args in
     fed (a .s .now) (a .i) (omega arith) (first .wide .ensures) (second .wide2 .ensures) (third .wide3 .ensures) (c .wide4 .ensures)
 
-pub word-spec : {M : Type 1} → statement M
-word-spec =
+pub four-spec : {M : Type 1} → statement M
+four-spec =
     tie.close
     (tie.spec
     shared-slice-read-wide
