@@ -1,8 +1,8 @@
 -- What is known of a call that a node does not refuse, both ways, and the frame as `send_on` puts it together.
-use Prim.Native.Nat.{ℕ, _+_, _-_, _*_, _^_, _≤_, _<_}
+use Prim.Native.Nat.{ℕ, _+_, _-_, _*_, _/_, _%_, _^_, _≤_, _<_}
 use mathlib.Core.Path.{_≡_, refl, ap, ap₂, sym, _∙_}
 use mathlib.Core.Bool.{false}
-use mathlib.Core.List.{List, _++_}
+use mathlib.Core.List.{List, [], _∷_, _++_}
 use native.Mathlib.Omega.{arith}
 use lib.ListN.{length, take, drop, length-append}
 use borrow.Author.Tests.{ltb-false, le-ltb}
@@ -10,11 +10,11 @@ use borrow.Rule.Slice.PartMut.{putMid, midOf}
 use Rattle.octets.proofs.PartLaws.{grown}
 use Rattle.refusals.specs.Refusals.{_orElse_, refuse, addressBad, refusal10, refusal15, refusal16}
 use Rattle.refusals.proofs.RefusalLaws.{orElse-zero, refuse-zero, in-range}
-use Rattle.fcs.specs.Fcs.{fcsOctets}
+use Rattle.fcs.specs.Fcs.{fcsOf, fcsOctets}
 use Rattle.frame.specs.Orders.{takenRefusal}
 use Rattle.frame.proofs.FrameLaws.{passes}
 use Rattle.onward.specs.Onward.{dropped, onwardHead, onwardField, framed, onward}
-use Rattle.onward.proofs.OnwardLaws.{onward-length, field-length, kept, sealed-behind}
+use Rattle.onward.proofs.OnwardLaws.{onward-length, field-length, kept, put-behind}
 use Rattle.node.specs.Node.{forwardRefusal, Sendable}
 
 pub record Forwarded (level wait addr : ℕ) (f : List ℕ) (room : ℕ) : Type 0 where
@@ -59,25 +59,26 @@ sendable n level wait addr f out h e w =
     record { size = e; long = omega arith; within = omega arith; room = omega (arith, t .roomy); brief = w; ranged = omega arith }
 
 -- the head, the voice field and the check, put one behind the other
-module _ (n l w a : ℕ) (f O x₁ p₂ y : List ℕ) (s : Sendable n l w a f O) where
-  pub assembled : x₁ ≡ onwardHead l w a f ++ drop 8 O
+module _ (n l w a : ℕ) (f O h x₁ p₂ y : List ℕ) (check : ℕ) (s : Sendable n l w a f O) where
+  pub assembled : h ≡ onwardHead l w a f → length h ≡ 8 → check ≡ fcsOf h → x₁ ≡ h ++ drop (length h) O
       → p₂ ≡ take (n - 2 - 8) (drop 8 f) ++ drop (length (take (n - 2 - 8) (drop 8 f))) (midOf 8 (length x₁ - 8) x₁)
-      → y ≡ take (n - 2) (putMid 8 (length x₁ - 8) x₁ p₂) ++ fcsOctets (take 8 (putMid 8 (length x₁ - 8) x₁ p₂)) ++ drop (n - 2 + 2) (putMid 8 (length x₁ - 8) x₁ p₂)
+      → y ≡ take (n - 2) (putMid 8 (length x₁ - 8) x₁ p₂) ++ (check % 256 ∷ check / 256 ∷ []) ++ drop (n - 2 + 2) (putMid 8 (length x₁ - 8) x₁ p₂)
       → y ≡ onward l w a f ++ drop n O
-  unfolding onward onwardHead onwardField framed
-  assembled e₁ e₂ e₃ =
-      let H : List ℕ = onwardHead l w a f in
+  unfolding onward onwardField framed fcsOctets
+  assembled e₀ l₀ ec e₁ e₂ e₃ =
       let F : List ℕ = onwardField l f in
       let many : n - 2 - 8 ≡ length f - 10 - 16 * dropped l f = omega (arith, s .size, onward-length l w a f, s .long) in
       let eF : take (n - 2 - 8) (drop 8 f) ≡ F = ap (λ (k : ℕ). take k (drop 8 f)) many in
       let lF : length F ≡ n - 2 - 8 = field-length l w a f ∙ sym many in
       let x₂ : List ℕ = putMid 8 (length x₁ - 8) x₁ p₂ in
+      let e₁′ : x₁ ≡ h ++ drop 8 O = e₁ ∙ ap (λ (k : ℕ). h ++ drop k O) l₀ in
       let e₂′ : p₂ ≡ F ++ drop (n - 2 - 8) (midOf 8 (length x₁ - 8) x₁) =
       e₂ ∙ ap (λ (v : List ℕ). v ++ drop (length v) (midOf 8 (length x₁ - 8) x₁)) eF ∙ ap (λ (k : ℕ). F ++ drop k (midOf 8 (length x₁ - 8) x₁)) lF in
-      let g₂ : x₂ ≡ (H ++ F) ++ drop (8 + (n - 2 - 8)) O = grown H F O x₁ p₂ 8 (n - 2 - 8) refl lF e₁ e₂′ in
       let at : 8 + (n - 2 - 8) ≡ n - 2 = omega (arith, s .long) in
-      let g₂′ : x₂ ≡ (H ++ F) ++ drop (n - 2) O = g₂ ∙ ap (λ (k : ℕ). (H ++ F) ++ drop k O) at in
-      let lT : length (H ++ F) ≡ n - 2 = length-append H F ∙ ap (λ (k : ℕ). 8 + k) lF ∙ at in
+      let g₂ : x₂ ≡ (h ++ F) ++ drop (n - 2) O = grown h F O x₁ p₂ 8 (n - 2 - 8) l₀ lF e₁′ e₂′ ∙ ap (λ (k : ℕ). (h ++ F) ++ drop k O) at in
+      let lT : length (h ++ F) ≡ n - 2 = length-append h F ∙ ap₂ (λ (j k : ℕ). j + k) l₀ lF ∙ at in
       let end : n - 2 + 2 ≡ n = omega (arith, s .long) in
-      sealed-behind (H ++ F) O x₂ y (n - 2) lT (omega (arith, s .long)) g₂′ e₃
-      ∙ ap (λ (k : ℕ). (H ++ F ++ fcsOctets H) ++ drop k O) end
+      put-behind (h ++ F) O x₂ y (check % 256 ∷ check / 256 ∷ []) (n - 2) lT g₂ e₃
+      ∙ ap (λ (k : ℕ). (h ++ F ++ (check % 256 ∷ check / 256 ∷ [])) ++ drop k O) end
+      ∙ ap (λ (k : ℕ). (h ++ F ++ (k % 256 ∷ k / 256 ∷ [])) ++ drop n O) ec
+      ∙ ap (λ (k : List ℕ). (k ++ F ++ (fcsOf k % 256 ∷ fcsOf k / 256 ∷ [])) ++ drop n O) e₀

@@ -22,14 +22,17 @@ fn forward_refusal(frame: &[u8], level: usize, address: usize, room: usize) -> u
     refusals::refusal_16(room, onward::onward_length(frame, level))
 }
 
-// The frame sent on, of n octets, into a buffer with room for it.
+// The frame sent on, of n octets, into a buffer with room for it. The check is worked out before the head is stored: to read
+// back in one piece what was stored octet by octet makes a machine wait.
 fn send_on(frame: &[u8], n: usize, level: usize, wait: usize, address: usize, out: &mut [u8])
     requires { ⌜ Sendable n level wait address (now frame) (now out) ⌝ }
     ensures { λ _. ⌜ now (out .exit) ≡ onward level wait address (now (frame .entry)) ++ drop n (now (out .entry)) ⌝ }
 {
-    onward::put_head(frame, level, wait, address, out);
+    let made = onward::head(frame, level, wait, address);
+    let check = fcs::head(made);
+    octets::copy(&made, out);
     octets::copy(&frame[8..n - 2], &mut out[8..]);
-    fcs::seal(out, 8, n - 2);
+    fcs::put(out, check, n - 2);
 }
 
 // Voice and signalling alike. Refused, the buffer is as it came; taken, so is what is left of it.

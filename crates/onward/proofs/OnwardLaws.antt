@@ -1,6 +1,6 @@
 -- Laws of what is sent on: how long it is, that two steps are one, and that it passes every check again.
 use Prim.Native.Nat.{ℕ, _+_, _-_, _*_, _/_, _%_, min, _≤_}
-use mathlib.Core.Path.{_≡_, refl, ap, sym, _∙_}
+use mathlib.Core.Path.{_≡_, refl, ap, ap₂, sym, _∙_}
 use mathlib.Core.Bool.{Bool, true, false, cond}
 use mathlib.Core.List.{List, _++_}
 use native.Mathlib.Omega.{arith}
@@ -191,13 +191,18 @@ module _ (l w a : ℕ) (f : List ℕ) (p : Passes f) where
 
 -- ---- what the writers leave in their buffer
 
--- x begins with T, and goes on as O does; the check of octets 1 to 8 is put behind T
+-- x begins with T, and goes on as O does; two octets are put behind T, or the check of octets 1 to 8
+pub put-behind : (T O x y c : List ℕ) (at : ℕ) → length T ≡ at → x ≡ T ++ drop at O → y ≡ take at x ++ c ++ drop (at + 2) x
+    → y ≡ (T ++ c) ++ drop (at + 2) O
+put-behind T O x y c at lT ex ey =
+    let front : take at x ≡ T = ap (take at) ex ∙ take-at T (drop at O) at lT in
+    let back : drop (at + 2) x ≡ drop (at + 2) O =
+    sym (drop-drop 2 at x) ∙ ap (λ (l : List ℕ). drop 2 (drop at l)) ex ∙ ap (drop 2) (drop-at T (drop at O) at lT) ∙ drop-drop 2 at O in
+    ey ∙ ap₂ (λ (l m : List ℕ). (l ++ c) ++ m) front back
+
 pub sealed-behind : (T O x y : List ℕ) (at : ℕ) → length T ≡ at → 8 ≤ at → x ≡ T ++ drop at O
     → y ≡ take at x ++ fcsOctets (take 8 x) ++ drop (at + 2) x
     → y ≡ (T ++ fcsOctets (take 8 T)) ++ drop (at + 2) O
 sealed-behind T O x y at lT long ex ey =
-    let front : take at x ≡ T = ap (take at) ex ∙ take-at T (drop at O) at lT in
-    let head : take 8 x ≡ take 8 T = ap (take 8) ex ∙ take-append-le 8 T (drop at O) (omega arith) in
-    let back : drop (at + 2) x ≡ drop (at + 2) O =
-    sym (drop-drop 2 at x) ∙ ap (λ (l : List ℕ). drop 2 (drop at l)) ex ∙ ap (drop 2) (drop-at T (drop at O) at lT) ∙ drop-drop 2 at O in
-    ey ∙ rw (front, head, back)
+    put-behind T O x y (fcsOctets (take 8 x)) at lT ex ey
+    ∙ ap (λ (l : List ℕ). (T ++ fcsOctets l) ++ drop (at + 2) O) (ap (take 8) ex ∙ take-append-le 8 T (drop at O) (omega arith))

@@ -60,20 +60,25 @@ fn octet_5(frame: &[u8], level: usize) -> u8
 }
 
 // Octets 1 to 8 of the frame sent on. The node's and the origin's proofs meet the requires.
+pub fn head(frame: &[u8], level: usize, wait: usize, address: usize) -> [u8; 8]
+    requires { ⌜ (8 ≤ length (now frame)) × (wait < 2 ^ 32) × (address < 8192) ⌝ }
+    ensures { λ r. ⌜ r ≡ onwardHead level wait address (now (frame .entry)) ⌝ }
+{
+    let first = octet_1(address, frame[0]);
+    let second = octet_2(address, frame[1]);
+    let third = frame[2];
+    let fourth = frame[3];
+    let fifth = octet_5(frame, level);
+    let sixth = stamp_after(frame[5], wait);
+    let seventh = frame[6];
+    let eighth = frame[7];
+    [first, second, third, fourth, fifth, sixth, seventh, eighth]
+}
+
 pub fn put_head(frame: &[u8], level: usize, wait: usize, address: usize, out: &mut [u8])
     requires { ⌜ (8 ≤ length (now frame)) × (wait < 2 ^ 32) × (address < 8192) × (8 ≤ length (now out)) ⌝ }
     ensures { λ _. ⌜ now (out .exit) ≡ onwardHead level wait address (now (frame .entry)) ++ drop 8 (now (out .entry)) ⌝ }
 {
-    let first = octet_1(address, frame[0]);
-    let second = octet_2(address, frame[1]);
-    let fifth = octet_5(frame, level);
-    let sixth = stamp_after(frame[5], wait);
-    out[0] = first;
-    out[1] = second;
-    out[2] = frame[2];
-    out[3] = frame[3];
-    out[4] = fifth;
-    out[5] = sixth;
-    out[6] = frame[6];
-    out[7] = frame[7];
+    let made = head(frame, level, wait, address);
+    octets::copy(&made, out);
 }

@@ -1,10 +1,21 @@
+-- `node::send_on` meets its contract.
+use native.Mathlib.Omega.{arith}
 use Rattle.node.proofs.ForwardLaws.{assembled}
 use borrow.Author.Needs.{needs}
 use Rattle.node.proofs.send_on.Statement.{statement}
 use Rattle.node.proofs.send_on.Tie as tie
 
-put-head-requires : tie.Need-put-head-requires
-put-head-requires c κs = search needs
+head-requires : tie.Need-head-requires
+head-requires c κs = search needs
+
+head-requires-2 : tie.Need-head-requires-2
+head-requires-2 c κs = search needs
+
+slice-aggregate-copy : tie.Need-slice-aggregate-copy
+slice-aggregate-copy c = search needs
+
+copy-requires : tie.Need-copy-requires
+copy-requires c κs = search needs
 
 sub-copy : tie.Need-sub-copy
 sub-copy c = search needs
@@ -27,32 +38,38 @@ part-copy-start-2 c = search needs
 part-copy-end-2 : tie.Need-part-copy-end-2
 part-copy-end-2 c = search needs
 
-copy-requires : tie.Need-copy-requires
-copy-requires c κs = search needs
+copy-requires-2 : tie.Need-copy-requires-2
+copy-requires-2 c κs = search needs
 
-sub-seal : tie.Need-sub-seal
-sub-seal c = search needs
+sub-put : tie.Need-sub-put
+sub-put c = search needs
 
-seal-requires : tie.Need-seal-requires
-seal-requires c κs = search needs
+put-requires : tie.Need-put-requires
+put-requires c κs = search needs
 
 same-length : tie.Need-same-length
 same-length c = search needs
 
 returns : tie.Need-returns
 returns c =
-    let a = c .before .before .before .before .before .before .before .before .before .before .before .before .before .before .before .args in
-    let h = c .before .before .before .before .before .before .before .before .before .before .before .put-head in
-    let k = c .before .before .before .before .before .before .copy in
-    let q = c .before .before .seal in
-    assembled (a .n) (a .level) (a .wait) (a .address) (a .frame .now) (a .out .now) (h .last .1 .1 .1 .1 .0) (k .last .1 .0) (q .last .0)
-    (c .before .before .before .before .before .before .before .before .before .before .before .before .before .before .before .pre) (h .ensures) (k .ensures) (q .ensures)
+    let q = c .before .before .put in
+    let k = c .before .before .before .before .before .before .copy2 in
+    let j = c .before .before .before .before .before .before .before .before .before .before .before .copy in
+    let check = c .before .before .before .before .before .before .before .before .before .before .before .before .before .before .head2 in
+    let h = c .before .before .before .before .before .before .before .before .before .before .before .before .before .before .before .head in
+    let start = c .before .before .before .before .before .before .before .before .before .before .before .before .before .before .before .before .before .before in
+    let a = start .args in
+    assembled (a .n) (a .level) (a .wait) (a .address) (a .frame .now) (a .out .now) (h .result) (j .last .1 .0) (k .last .1 .0) (q .last .0) (check .result)
+    (start .pre) (h .ensures) (omega arith) (check .ensures) (j .ensures) (k .ensures) (q .ensures)
 
 pub send-on-spec : {M : Type 1} → statement M
 send-on-spec =
     tie.close
     (tie.spec
-    put-head-requires
+    head-requires
+    head-requires-2
+    slice-aggregate-copy
+    copy-requires
     sub-copy
     sub-copy-2
     part-copy-start
@@ -60,8 +77,8 @@ send-on-spec =
     sub-copy-3
     part-copy-start-2
     part-copy-end-2
-    copy-requires
-    sub-seal
-    seal-requires
+    copy-requires-2
+    sub-put
+    put-requires
     same-length
     returns)
