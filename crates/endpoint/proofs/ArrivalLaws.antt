@@ -1,27 +1,39 @@
 -- An arrival is the decision on the frame's fields: the laws of the decision, over the octets.
 use Prim.Native.Nat.{ℕ, _+_, _≤_}
-use mathlib.Core.Path.{_≡_, sym, ap, ap₂, _∙_}
-use mathlib.Core.Bool.{cond}
+use mathlib.Core.Path.{_≡_, refl, sym, ap, ap₂, _∙_}
+use mathlib.Core.Bool.{Bool, true, false, cond, _||_}
+use lib.Dec.{ltb}
 use mathlib.Core.List.{List}
 use mathlib.Core.Logic.{_⊎_, ⊎-elim}
 use native.Mathlib.Omega.{arith}
 use Rattle.frame.specs.Fields.{stamp, moreBit, sequence, noise}
+use Rattle.refusals.specs.Refusals.{_orElse_, refuse}
+use Rattle.refusals.proofs.RefusalLaws.{orElse-take, orElse-assoc}
 use Rattle.frame.specs.Orders.{voiceRefusal}
 use Rattle.endpoint.specs.declared.Endpoint.{Endpoint}
 use Rattle.endpoint.specs.declared.Decision.{Decision}
-use Rattle.endpoint.specs.declared.Heard.{Heard}
+use Rattle.endpoint.specs.declared.Outcome.{Outcome}
 use Rattle.endpoint.specs.declared.Arrived.{Arrived}
-use Rattle.endpoint.specs.Play.{refusal14, dueAt, playRefusal, afterScheduled, afterRefused, decision}
+use Rattle.endpoint.specs.Play.{clockLimit, recordBad, refusal14, refusal18, dueAt, playRefusal, afterScheduled, stillStores, afterRefused, refusedWith, decision}
 use Rattle.endpoint.specs.Read.{heardOf, readAnswer}
 use Rattle.endpoint.specs.Arrival.{resetOf, frameDecision, arrivalBy, arrivalOf}
+use Rattle.endpoint.specs.Outcome.{outcomeOf}
 use Rattle.endpoint.specs.Calls.{isReceived}
-use Rattle.endpoint.proofs.PlayLaws.{decided-number, decided-scheduled, decided-ranged, decided-near, decided-ahead, decided-apart, decided-left, decided-last, decided-readable, still-stores, stores-nothing, refused-stores, refused-keeps}
+use Rattle.endpoint.proofs.PlayLaws.{first-stands, decided-with, decided-number, decided-scheduled, decided-ranged, decided-near, decided-ahead, decided-apart, decided-left, decided-last, decided-readable, still-stores, stores-nothing, refused-stores, refused-keeps}
 
--- an arrival put together of the decision, what is heard and the reset
-abbrev pub arrivedWith : Decision → Heard → ℕ → Arrived
-arrivedWith d h reset = record {
-  answer = record { refusal = d .refusal; due = d .due; reset = reset; s = h .s; dropped = h .dropped; samples = h .samples };
-  after = d .after;
+-- neither the number of the record nor that of the clock stores anything
+pub early-stores-nothing : (e : Endpoint) (clock : ℕ) → stillStores (refusal14 e orElse refusal18 e clock) ≡ false
+early-stores-nothing e clock = go (recordBad e) (ltb clock (e .lastclock) || ltb clockLimit clock) where
+  go : (s t : Bool) → stillStores (refuse s 14 orElse refuse t 18) ≡ false
+  go true t = refl
+  go false true = refl
+  go false false = refl
+
+-- an arrival put together of its outcome and what is heard
+abbrev arrivedWith : Outcome → List ℕ → Arrived
+arrivedWith o l = record {
+  answer = record { refusal = o .refusal; due = o .due; reset = o .reset; s = o .s; dropped = o .dropped; samples = l };
+  after = o .after;
 }
 
 module _ (e : Endpoint) (f : List ℕ) (clock : ℕ) where
@@ -32,11 +44,37 @@ module _ (e : Endpoint) (f : List ℕ) (clock : ℕ) where
   unfolding frameDecision
   decided-fields given late seq more level d p q r s t u = rw (← p, ← q, ← r, ← s, ← t) u
 
-  pub arrived-is : (d : Decision) (h : Heard) (reset : ℕ)
-      → d ≡ frameDecision e f clock → h ≡ heardOf (d .refusal) f → reset ≡ resetOf (d .refusal) f
-      → arrivedWith d h reset ≡ arrivalOf e f clock
+  pub arrival-readable : frameDecision e f clock .refusal ≡ 0 → voiceRefusal f ≡ 0
+  unfolding frameDecision
+  arrival-readable = decided-readable e clock (voiceRefusal f) (stamp f) (sequence f) (moreBit f) (noise f)
+
+  -- refused by the record or the clock
+  pub decided-early : (first : ℕ) (d : Decision) → first ≡ refusal14 e orElse refusal18 e clock → (first ≡ 0 → ⊥)
+      → ((more level : ℕ) → d ≡ refusedWith e first more level) → d ≡ frameDecision e f clock
+  unfolding frameDecision
+  decided-early first d p h q =
+      decided-with e clock (voiceRefusal f) (stamp f) (sequence f) (moreBit f) (noise f) first d
+      (first-stands e clock (voiceRefusal f) (stamp f) (sequence f) first
+      (orElse-take (refusal14 e orElse refusal18 e clock) (voiceRefusal f) first p h ∙ sym (orElse-assoc (refusal14 e) (refusal18 e clock) (voiceRefusal f))) h) h
+      (q (moreBit f) (noise f))
+
+  pub outcome-is : (d : Decision) (s dropped reset : ℕ) → d ≡ frameDecision e f clock
+      → (s ≡ heardOf (d .refusal) f .s) × (dropped ≡ heardOf (d .refusal) f .dropped) → reset ≡ resetOf (d .refusal) f
+      → _≡_ {A = Outcome} (record { refusal = d .refusal; due = d .due; reset = reset; s = s; dropped = dropped; after = d .after }) (outcomeOf (arrivalOf e f clock))
   unfolding arrivalOf arrivalBy
-  arrived-is d h reset p q r = ap₂ (arrivedWith d) q r ∙ ap (λ (x : Decision). arrivalBy x f) p
+  outcome-is d s dropped reset p q r =
+      ap₂ (λ (x y : ℕ). record { refusal = d .refusal; due = d .due; reset = reset; s = x; dropped = y; after = d .after }) (q .0) (q .1)
+      ∙ ap (λ (x : ℕ). record { refusal = d .refusal; due = d .due; reset = x; s = heardOf (d .refusal) f .s; dropped = heardOf (d .refusal) f .dropped; after = d .after }) r
+      ∙ ap (λ (x : Decision). outcomeOf (arrivalBy x f)) p
+
+  -- where the outcome is 0, the frame can be read
+  pub outcome-readable : (o : Outcome) → o ≡ outcomeOf (arrivalOf e f clock) → o .refusal ≡ 0 → voiceRefusal f ≡ 0
+  unfolding arrivalOf arrivalBy
+  outcome-readable o p z = arrival-readable (sym (ap (λ (x : Outcome). x .refusal) p) ∙ z)
+
+  pub arrived-is : (o : Outcome) (l : List ℕ) → o ≡ outcomeOf (arrivalOf e f clock) → l ≡ heardOf (o .refusal) f .samples → arrivedWith o l ≡ arrivalOf e f clock
+  unfolding arrivalOf arrivalBy
+  arrived-is o l p q = ap (arrivedWith o) q ∙ ap (λ (x : Outcome). arrivedWith x (heardOf (x .refusal) f .samples)) p
 
   pub arrival-ranged : refusal14 e ≡ 0 → refusal14 (arrivalOf e f clock .after) ≡ 0
   unfolding arrivalOf arrivalBy frameDecision
@@ -83,10 +121,6 @@ module _ (e : Endpoint) (f : List ℕ) (clock : ℕ) where
   arrival-last = decided-last e clock (voiceRefusal f) (stamp f) (sequence f) (moreBit f) (noise f)
 
   -- what is scheduled can be read
-  pub arrival-readable : frameDecision e f clock .refusal ≡ 0 → voiceRefusal f ≡ 0
-  unfolding frameDecision
-  arrival-readable = decided-readable e clock (voiceRefusal f) (stamp f) (sequence f) (moreBit f) (noise f)
-
   -- the number of the order, and where there is none the due time and the record after
   pub arrival-number : arrivalOf e f clock .answer .refusal ≡ playRefusal e clock (voiceRefusal f) (stamp f) (sequence f)
   unfolding arrivalOf arrivalBy frameDecision

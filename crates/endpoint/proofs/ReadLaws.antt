@@ -1,11 +1,11 @@
 -- What the voice reader's frame is known to hold, where it passes.
-use Prim.Native.Nat.{ℕ, _+_, _*_, _-_, _≤_}
-use mathlib.Core.Path.{_≡_, sym, ap, ap₂, _∙_}
+use Prim.Native.Nat.{ℕ, zero, suc, _+_, _*_, _-_, _≤_}
+use mathlib.Core.Path.{_≡_, refl, sym, ap, ap₂, _∙_}
 use mathlib.Core.Bool.{Bool, true, false, _&&_, cond}
-use mathlib.Core.List.{List}
+use mathlib.Core.List.{List, _++_, append-nil}
 use native.Mathlib.Omega.{arith}
 use lib.Dec.{eqb}
-use lib.ListN.{length, drop}
+use lib.ListN.{length, drop, replicate, drop-of-length-le}
 use borrow.Author.Tests.{eq-eqb, ne-eqb}
 use Rattle.refusals.proofs.RefusalLaws.{if-refused}
 use Rattle.blocks.specs.Blocks.{samples}
@@ -38,27 +38,62 @@ pub heard-taken : (n : ℕ) (f : List ℕ) → n ≡ 0 → heardOf n f ≡ recor
 unfolding heardOf
 heard-taken n f z = rw z
 
+pub heard-refused : (n : ℕ) (f : List ℕ) → (n ≡ 0 → ⊥) → heardOf n f ≡ record { refusal = n; s = 0; dropped = 0; samples = replicate 128 0 }
+unfolding heardOf
+heard-refused n f h =
+    if-refused n (record { refusal = 0; s = bitsOf f; dropped = droppedOf f; samples = samplesOf f }) (record { refusal = n; s = 0; dropped = 0; samples = replicate 128 0 }) h
+
+-- a reader's answer, put together of its parts
+heard-number : (n : ℕ) (f : List ℕ) → n ≡ heardOf n f .refusal
+unfolding heardOf
+heard-number zero f = refl
+heard-number (suc n) f = refl
+
+pub heard-of : (n : ℕ) (f : List ℕ) (s dropped : ℕ) (l : List ℕ) → (s ≡ heardOf n f .s) × (dropped ≡ heardOf n f .dropped) → l ≡ heardOf n f .samples
+    → _≡_ {A = Heard} (record { refusal = n; s = s; dropped = dropped; samples = l }) (heardOf n f)
+heard-of n f s dropped l p q =
+    ap₂ (λ (x y : ℕ). record { refusal = n; s = x; dropped = y; samples = l }) (p .0) (p .1)
+    ∙ ap₂ (λ (x : ℕ) (y : List ℕ). record { refusal = x; s = heardOf n f .s; dropped = heardOf n f .dropped; samples = y }) (heard-number n f) q
+
+-- what is told beside the samples
+pub told-refused : (n : ℕ) (f : List ℕ) → (n ≡ 0 → ⊥) → (0 ≡ heardOf n f .s) × (0 ≡ heardOf n f .dropped)
+told-refused n f h = (sym (ap (λ (r : Heard). r .s) (heard-refused n f h)), sym (ap (λ (r : Heard). r .dropped) (heard-refused n f h)))
+
+pub told-taken : (n : ℕ) (f : List ℕ) (s m c dropped : ℕ) → n ≡ 0 → s ≡ bitsOf f → m ≡ fieldM f → c ≡ fieldC f → dropped ≡ m - c
+    → (s ≡ heardOf n f .s) × (dropped ≡ heardOf n f .dropped)
+told-taken n f s m c dropped z is-s is-m is-c is-dropped = (
+  is-s ∙ sym (ap (λ (r : Heard). r .s) (heard-taken n f z)),
+  is-dropped ∙ ap₂ _-_ is-m is-c ∙ sym (ap (λ (r : Heard). r .dropped) (heard-taken n f z)),
+)
+
 -- what is read step by step: S twice, M, C, the number dropped and the number present
 module _ (f : List ℕ) (s bits m c dropped present : ℕ) (is-s : s ≡ bitsOf f) (is-bits : bits ≡ s) (is-m : m ≡ fieldM f) (is-c : c ≡ fieldC f) (is-dropped : dropped ≡ m - c) (is-present : present ≡ bits - dropped) where
-  dropped-is : dropped ≡ droppedOf f
-  dropped-is = is-dropped ∙ ap₂ _-_ is-m is-c
-
   bits-is : bits ≡ bitsOf f
   bits-is = is-bits ∙ is-s
 
   present-is : present ≡ bitsOf f - droppedOf f
-  present-is = is-present ∙ ap₂ _-_ bits-is dropped-is
+  present-is = is-present ∙ ap₂ _-_ bits-is (is-dropped ∙ ap₂ _-_ is-m is-c)
 
   pub steps-there : voiceRefusal f ≡ 0 → (8 + 16 * present ≤ length f) × (present ≤ bits) × (bits ≤ 8)
   steps-there h = rw (present-is, bits-is) (blocks-there f h)
 
-  pub steps-heard : (n : ℕ) (kept : List ℕ) → n ≡ 0 → kept ≡ samples (drop 8 f) bits present
-      → _≡_ {A = Heard} (record { refusal = 0; s = s; dropped = dropped; samples = kept }) (heardOf n f)
+  -- and put before what stood behind
+  pub steps-heard : (kept out x : List ℕ) → length kept ≡ 128 → kept ≡ samples (drop 8 f) bits present → x ≡ kept ++ drop (length kept) out
+      → x ≡ samplesOf f ++ drop 128 out
   unfolding samplesOf
-  steps-heard n kept z k =
-      ap₂ (λ (x y : ℕ). record { refusal = 0; s = x; dropped = y; samples = kept }) is-s dropped-is
-      ∙ ap (λ (l : List ℕ). record { refusal = 0; s = bitsOf f; dropped = droppedOf f; samples = l }) (k ∙ ap₂ (samples (drop 8 f)) bits-is present-is)
-      ∙ sym (heard-taken n f z)
+  steps-heard kept out x size k e =
+      e ∙ ap (λ (n : ℕ). kept ++ drop n out) size ∙ ap (λ (l : List ℕ). l ++ drop 128 out) (k ∙ ap₂ (samples (drop 8 f)) bits-is present-is)
+
+-- what the lent slice holds, refused or not
+pub into-refused : (n : ℕ) (f out x : List ℕ) → (n ≡ 0 → ⊥) → x ≡ replicate 128 0 ++ drop 128 out → x ≡ heardOf n f .samples ++ drop 128 out
+into-refused n f out x h e = e ∙ ap (λ (r : Heard). r .samples ++ drop 128 out) (sym (heard-refused n f h))
+
+pub into-taken : (n : ℕ) (f out x : List ℕ) → n ≡ 0 → x ≡ samplesOf f ++ drop 128 out → x ≡ heardOf n f .samples ++ drop 128 out
+into-taken n f out x z e = e ∙ ap (λ (r : Heard). r .samples ++ drop 128 out) (sym (heard-taken n f z))
+
+-- and a slice of 128 holds them alone
+pub all-heard : (l out x : List ℕ) → length out ≡ 128 → x ≡ l ++ drop 128 out → x ≡ l
+all-heard l out x size e = e ∙ ap (λ (r : List ℕ). l ++ r) (drop-of-length-le out {i = 128} (omega arith)) ∙ append-nil l
 
 pub read-taken : (f : List ℕ) → voiceRefusal f ≡ 0 → readAnswer f ≡ record { refusal = 0; s = bitsOf f; dropped = droppedOf f; samples = samplesOf f }
 unfolding readAnswer

@@ -17,13 +17,17 @@ use octets::wide;
 use refusals::or_else;
 use refusals::refuse;
 ghost use mathlib.Core.Path.{_≡_};
-ghost use Prim.Native.Nat.{_+_, _≤_};
+ghost use mathlib.Core.Bool.{false};
+ghost use mathlib.Core.List.{_++_};
+ghost use Prim.Native.Nat.{ℕ, _+_, _≤_};
 ghost use lib.Dec.{ltb};
+ghost use lib.ListN.{length, drop, replicate};
 ghost use Rattle.frame.specs.Orders.{voiceRefusal};
-ghost use Rattle.endpoint.specs.Arrival.{resetOf, arrivalOf};
+ghost use Rattle.endpoint.specs.Arrival.{frameDecision, resetOf, arrivalOf};
+ghost use Rattle.endpoint.specs.Outcome.{outcomeOf};
 ghost use Rattle.endpoint.specs.Fill.{fillOf};
-ghost use Rattle.endpoint.specs.Play.{freshRecord, clockLimit, buildoutBad, refusal14, refusal18, inTurn, hold, dueAt, stampLate, refusal17, rseqAfter, scheduledAt, refusedWith, decision};
-ghost use Rattle.endpoint.specs.Read.{heardOf, readAnswer};
+ghost use Rattle.endpoint.specs.Play.{freshRecord, clockLimit, buildoutBad, refusal14, refusal18, inTurn, hold, dueAt, stampLate, refusal17, rseqAfter, scheduledAt, stillStores, refusedWith, decision};
+ghost use Rattle.endpoint.specs.Read.{samplesOf, heardOf, readAnswer};
 ghost use Rattle.endpoint.specs.Signal.{signalOrder, signalAnswer};
 
 // The play clock is a count of ms up to 2^62.
@@ -194,6 +198,58 @@ fn decide(e: Endpoint, clock: u64, given: u8, stamp: u8, seq: u8, more: u8, nois
     scheduled(e, clock, seq, more, noise, due)
 }
 
+// What is told of a frame whose refusal is n beside its samples.
+pub struct Told {
+    pub s: u8,
+    pub dropped: u8,
+}
+
+pub fn tell(n: u8, frame: &[u8]) -> Told
+    ensures { λ r. ⌜ (r .s ≡ heardOf n (now (frame .entry)) .s) × (r .dropped ≡ heardOf n (now (frame .entry)) .dropped) ⌝ }
+{
+    if n != 0 {
+        return Told { s: 0, dropped: 0 };
+    }
+    let dropped = less(field_m(frame), field_c(frame));
+    Told {
+        s: coding_of(frame).sample_bits(),
+        dropped: dropped as u8,
+    }
+}
+
+fn quiet(samples: &mut [u8])
+    requires { ⌜ 128 ≤ length (now samples) ⌝ }
+    ensures { λ _. ⌜ now (samples .exit) ≡ replicate 128 0 ++ drop 128 (now (samples .entry)) ⌝ }
+{
+    for i in 0..128 {
+        samples[i] = 0;
+    }
+}
+
+fn blocks_into(frame: &[u8], samples: &mut [u8])
+    requires { ⌜ (voiceRefusal (now frame) ≡ 0) × (128 ≤ length (now samples)) ⌝ }
+    ensures { λ _. ⌜ now (samples .exit) ≡ samplesOf (now (frame .entry)) ++ drop 128 (now (samples .entry)) ⌝ }
+{
+    let bits = wide(coding_of(frame).sample_bits());
+    let dropped = less(field_m(frame), field_c(frame));
+    let present = less(bits, dropped);
+    let heard = read_blocks(&*frame, bits, present);
+    octets::copy(&heard, samples);
+}
+
+// What is heard of a frame whose refusal is n, into a slice of 128 or more: zeros where it is refused, written once. The
+// callers' proofs show that no number of the voice reader's order applies where n is 0.
+pub fn hear_into(n: u8, frame: &[u8], samples: &mut [u8])
+    requires { ⌜ (n ≡ 0 → voiceRefusal (now frame) ≡ 0) × (128 ≤ length (now samples)) ⌝ }
+    ensures { λ _. ⌜ now (samples .exit) ≡ heardOf n (now (frame .entry)) .samples ++ drop 128 (now (samples .entry)) ⌝ }
+{
+    if n != 0 {
+        quiet(samples);
+        return;
+    }
+    blocks_into(&*frame, samples);
+}
+
 pub struct Heard {
     pub refusal: u8,
     pub s: u8,
@@ -201,38 +257,20 @@ pub struct Heard {
     pub samples: [u8; 128],
 }
 
-// What is heard of a frame whose refusal is n; where n is 0, no number of the voice reader's order applies.
-fn hear(n: u8, frame: &[u8]) -> Heard
-    requires { ⌜ (n ≡ 0 → voiceRefusal (now frame) ≡ 0) ⌝ }
-    ensures { λ r. ⌜ r ≡ heardOf n (now (frame .entry)) ⌝ }
-{
-    if n != 0 {
-        let none = [0u8; 128];
-        return Heard {
-            refusal: n,
-            s: 0,
-            dropped: 0,
-            samples: none,
-        };
-    }
-    let s = coding_of(frame).sample_bits();
-    let bits = wide(s);
-    let dropped = less(field_m(frame), field_c(frame));
-    let present = less(bits, dropped);
-    let samples = read_blocks(frame, bits, present);
-    Heard {
-        refusal: 0,
-        s: s,
-        dropped: dropped as u8,
-        samples: samples,
-    }
-}
-
 // The voice reader alone, with no record and no clock.
 pub fn read(frame: &[u8]) -> Heard
     ensures { λ r. ⌜ r ≡ readAnswer (now (frame .entry)) ⌝ }
 {
-    hear(voice_refusal(frame), frame)
+    let n = voice_refusal(frame);
+    let t = tell(n, frame);
+    let mut samples = [0u8; 128];
+    hear_into(n, frame, &mut samples);
+    Heard {
+        refusal: n,
+        s: t.s,
+        dropped: t.dropped,
+        samples: samples,
+    }
 }
 
 pub struct Arrival {
@@ -262,12 +300,28 @@ fn reset_of(n: u8, frame: &[u8]) -> u8
     }
 }
 
-// The arrival on a record by value, which is handed back moved on.
-pub fn arrive_value(e: Endpoint, frame: &[u8], clock: u64) -> Arrived
-    ensures { λ r. ⌜ r ≡ arrivalOf e (now (frame .entry)) clock ⌝ }
+// A frame that is refused by the record or the clock stores nothing.
+fn left(e: Endpoint, n: u8) -> Decision
+    requires { ⌜ stillStores n ≡ false ⌝ }
+    ensures { λ r. ⌜ ((more noise : ℕ) → r ≡ refusedWith e n more noise) ⌝ }
 {
-    let given = voice_refusal(frame);
-    let d = decide(
+    Decision {
+        refusal: n,
+        due: 0,
+        after: e,
+    }
+}
+
+// The record and the clock are judged before the frame is looked at.
+fn decide_frame(e: Endpoint, frame: &[u8], clock: u64) -> Decision
+    ensures { λ r. ⌜ r ≡ frameDecision e (now (frame .entry)) clock ⌝ }
+{
+    let first = or_else(refusal_14(e), refusal_18(e, clock));
+    if first != 0 {
+        return left(e, first);
+    }
+    let given = voice_refusal(&*frame);
+    decide(
         e,
         clock,
         given,
@@ -275,18 +329,51 @@ pub fn arrive_value(e: Endpoint, frame: &[u8], clock: u64) -> Arrived
         sequence_of(frame),
         more_bit(frame),
         noise_of(frame),
-    );
+    )
+}
+
+// What an arrival answers beside its samples, and the record after it.
+pub struct Outcome {
+    pub refusal: u8,
+    pub due: u64,
+    pub reset: u8,
+    pub s: u8,
+    pub dropped: u8,
+    pub after: Endpoint,
+}
+
+pub fn judge(e: Endpoint, frame: &[u8], clock: u64) -> Outcome
+    ensures { λ r. ⌜ r ≡ outcomeOf (arrivalOf e (now (frame .entry)) clock) ⌝ }
+{
+    let d = decide_frame(e, frame, clock);
     let n = d.refusal;
-    let h = hear(n, frame);
-    let samples = h.samples;
+    let t = tell(n, frame);
     let after = d.after;
+    Outcome {
+        refusal: n,
+        due: d.due,
+        reset: reset_of(n, frame),
+        s: t.s,
+        dropped: t.dropped,
+        after: after,
+    }
+}
+
+// The arrival on a record by value, which is handed back moved on.
+pub fn arrive_value(e: Endpoint, frame: &[u8], clock: u64) -> Arrived
+    ensures { λ r. ⌜ r ≡ arrivalOf e (now (frame .entry)) clock ⌝ }
+{
+    let o = judge(e, frame, clock);
+    let mut samples = [0u8; 128];
+    hear_into(o.refusal, frame, &mut samples);
+    let after = o.after;
     Arrived {
         answer: Arrival {
-            refusal: n,
-            due: d.due,
-            reset: reset_of(n, frame),
-            s: h.s,
-            dropped: h.dropped,
+            refusal: o.refusal,
+            due: o.due,
+            reset: o.reset,
+            s: o.s,
+            dropped: o.dropped,
             samples: samples,
         },
         after: after,

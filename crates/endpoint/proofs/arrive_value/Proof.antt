@@ -1,64 +1,34 @@
-use mathlib.Core.Path.{_≡_, sym, ap, _∙_}
-use Rattle.endpoint.specs.Arrival.{frameDecision}
-use Rattle.endpoint.proofs.ArrivalLaws.{arrival-readable, decided-fields, arrived-is}
+-- `endpoint::arrive_value` meets its contract.
+use mathlib.Core.Path.{refl}
+use native.Mathlib.Omega.{arith}
+use lib.ListN.{replicate}
+use Rattle.endpoint.specs.Read.{heardOf}
+use Rattle.endpoint.proofs.ReadLaws.{all-heard}
+use Rattle.endpoint.proofs.ArrivalLaws.{outcome-readable, arrived-is}
+use borrow.Author.Needs.{needs}
 use Rattle.endpoint.proofs.arrive_value.Statement.{statement}
 use Rattle.endpoint.proofs.arrive_value.Tie as tie
 
-decided : (c : tie.After-decide)
-    → let a = c .before .before .before .before .before .before .before .args in
-    c .decide .result ≡ frameDecision (a .e) (a .frame .now) (a .clock)
-decided c =
-    let a = c .before .before .before .before .before .before .before .args in
-    let v = c .before .before .before .before .before .voice-refusal in
-    let st = c .before .before .before .before .stamp-of in
-    let se = c .before .before .before .sequence-of in
-    let m = c .before .before .more-bit in
-    let n = c .before .noise-of in
-    decided-fields (a .e) (a .frame .now) (a .clock) (v .result) (st .result) (se .result) (m .result) (n .result) (c .decide .result) (v .ensures) (st .ensures) (se .ensures .0) (m .ensures .0) (n .ensures .0) (c .decide .ensures)
+judge-requires : tie.Need-judge-requires
+judge-requires c κs = tt
 
-voice-refusal-requires : tie.Need-voice-refusal-requires
-voice-refusal-requires c κs = tt
+slice-aggregate-hear-into : tie.Need-slice-aggregate-hear-into
+slice-aggregate-hear-into c = search needs
 
-stamp-of-requires : tie.Need-stamp-of-requires
-stamp-of-requires c κs = tt
-
-sequence-of-requires : tie.Need-sequence-of-requires
-sequence-of-requires c κs = tt
-
-more-bit-requires : tie.Need-more-bit-requires
-more-bit-requires c κs = tt
-
-noise-of-requires : tie.Need-noise-of-requires
-noise-of-requires c κs = tt
-
-decide-requires : tie.Need-decide-requires
-decide-requires c κs = tt
-
-hear-requires : tie.Need-hear-requires
-hear-requires c κs z =
-    let a = c .before .before .before .before .before .before .before .args in
-    arrival-readable (a .e) (a .frame .now) (a .clock) (sym (ap (λ x. x .refusal) (decided c)) ∙ z)
-
-reset-of-requires : tie.Need-reset-of-requires
-reset-of-requires c κs = tt
+hear-into-requires : tie.Need-hear-into-requires
+hear-into-requires c κs =
+    let o = c .before .judge in
+    let a = c .before .before .before .args in
+    (λ z. outcome-readable (a .e) (a .frame .now) (a .clock) (o .result) (o .ensures) z, omega arith)
 
 returns : tie.Need-returns
 returns c =
-    let d = c .before .before .before .before in
-    let h = c .before .before .before .hear in
-    let a = d .before .before .before .before .before .before .before .args in
-    arrived-is (a .e) (a .frame .now) (a .clock) (d .decide .result) (h .result) (c .reset-of .result) (decided d) (h .ensures) (c .reset-of .ensures)
+    let h = c .before .before .hear-into in
+    let o = c .before .before .before .before .judge in
+    let a = c .before .before .before .before .before .before .args in
+    arrived-is (a .e) (a .frame .now) (a .clock) (o .result) (h .last .1 .1 .0) (o .ensures)
+    (all-heard (heardOf (o .result .refusal) (a .frame .now) .samples) (replicate 128 0) (h .last .1 .1 .0) refl (h .ensures))
 
 pub arrive-value-spec : {M : Type 1} → statement M
 arrive-value-spec =
-    tie.close
-    (tie.spec
-    voice-refusal-requires
-    stamp-of-requires
-    sequence-of-requires
-    more-bit-requires
-    noise-of-requires
-    decide-requires
-    hear-requires
-    reset-of-requires
-    returns)
+    tie.close (tie.spec judge-requires slice-aggregate-hear-into hear-into-requires returns)

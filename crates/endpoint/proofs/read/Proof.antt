@@ -1,20 +1,42 @@
+-- `endpoint::read` meets its contract.
 use Prim.Native.Nat.{ℕ}
-use mathlib.Core.Path.{sym, ap, _∙_}
+use mathlib.Core.Path.{refl, sym, ap, _∙_}
+use native.Mathlib.Omega.{arith}
+use lib.ListN.{replicate}
 use Rattle.endpoint.specs.Read.{heardOf, readAnswer}
+use Rattle.endpoint.proofs.ReadLaws.{heard-of, all-heard}
+use borrow.Author.Needs.{needs}
 use Rattle.endpoint.proofs.read.Statement.{statement}
 use Rattle.endpoint.proofs.read.Tie as tie
 
 voice-refusal-requires : tie.Need-voice-refusal-requires
 voice-refusal-requires c κs = tt
 
-hear-requires : tie.Need-hear-requires
-hear-requires c κs z = sym (c .voice-refusal .ensures) ∙ z
+tell-requires : tie.Need-tell-requires
+tell-requires c κs = tt
+
+slice-aggregate-hear-into : tie.Need-slice-aggregate-hear-into
+slice-aggregate-hear-into c = search needs
+
+hear-into-requires : tie.Need-hear-into-requires
+hear-into-requires c κs = search needs
 
 returns : tie.Need-returns
 unfolding readAnswer
 returns c =
-    let f = c .before .before .before .args .frame .now in
-    c .hear .ensures ∙ ap (λ (n : ℕ). heardOf n f) (c .before .voice-refusal .ensures)
+    let h = c .before .hear-into in
+    let t = c .before .before .before .tell in
+    let v = c .before .before .before .before .voice-refusal in
+    let f = c .before .before .before .before .before .before .args .frame .now in
+    heard-of (v .result) f (t .result .s) (t .result .dropped) (h .last .1 .1 .0) (t .ensures) (all-heard (heardOf (v .result) f .samples) (replicate 128 0) (h .last .1 .1 .0) refl (h .ensures))
+    ∙ ap (λ (n : ℕ). heardOf n f) (v .ensures)
 
 pub read-spec : {M : Type 1} → statement M
-read-spec = tie.close (tie.spec voice-refusal-requires hear-requires returns)
+read-spec =
+    tie.close
+    (tie.spec
+    voice-refusal-requires
+    tell-requires
+    slice-aggregate-hear-into
+    hear-into-requires
+    returns)

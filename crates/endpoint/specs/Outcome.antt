@@ -1,0 +1,13 @@
+-- An arrival without its samples, which a call that is lent the samples' slice writes there itself.
+use Rattle.endpoint.specs.declared.Outcome.{Outcome}
+use Rattle.endpoint.specs.declared.Arrived.{Arrived}
+
+abbrev pub outcomeOf : Arrived → Outcome
+outcomeOf a = record {
+  refusal = a .answer .refusal;
+  due = a .answer .due;
+  reset = a .answer .reset;
+  s = a .answer .s;
+  dropped = a .answer .dropped;
+  after = a .after;
+}
