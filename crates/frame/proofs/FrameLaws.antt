@@ -1,26 +1,69 @@
 -- What is known of a frame that nothing refuses, both ways.
-use Prim.Native.Nat.{ℕ, _-_, _/_, _%_, _<_, _≤_}
-use mathlib.Core.Path.{_≡_, ap, _∙_}
+use Prim.Native.Nat.{ℕ, _%_, _≤_}
+use mathlib.Core.Path.{_≡_, sym, ap, ap₂, _∙_}
 use mathlib.Core.Bool.{Bool, true, false, _&&_, _||_, not, cond}
 use mathlib.Core.List.{List}
 use lib.Dec.{ltb, eqb}
 use lib.ListN.{length}
-use borrow.Author.Tests.{lt-ltb, ltb-false, eqb-true, le-ltb, eq-eqb, not-false}
+use borrow.Author.Tests.{ltb-false, eqb-true, le-ltb, eq-eqb, not-false}
 use Rattle.octets.specs.Octets.{octet}
 use Rattle.octets.proofs.BoolLaws.{or-false}
 use Rattle.refusals.specs.Refusals.{_orElse_, refuse, refusal1}
-use Rattle.refusals.proofs.RefusalLaws.{orElse-zero, orElse-assoc, refuse-zero, in-range, range-in}
+use Rattle.refusals.proofs.RefusalLaws.{orElse-zero, orElse-take, orElse-pass, orElse-assoc, refuse-zero, in-range, range-in}
 use Rattle.fcs.specs.Fcs.{fcsGood}
-use Rattle.coding.specs.Coding.{droppableBits, frameLength, reserved}
+use Rattle.coding.specs.Coding.{droppableBits, reserved}
 use Rattle.frame.specs.Fields.{address, control, isVoice, fieldM, fieldC, stamp, coding, covered}
-use Rattle.frame.specs.Orders.{refusal2, refusal3, refusal4, refusal5, legalLength, linkRefusal, layoutRefusal, takenRefusal, voiceRefusal, signalRefusal}
+use Rattle.frame.specs.Orders.{refusal2, refusal3, refusal4, refusal5, refusal7, refusal8, refusal9, refusal19, legalLength, linkRefusal, layoutRefusal, takenRefusal, voiceRefusal, signalRefusal}
+
+-- 1, 2 and 3, which cost no sum
+abbrev pub formRefusal : List ℕ → ℕ
+formRefusal f = refusal1 (length f) orElse refusal2 f orElse refusal3 f
+
+-- 4 and 5
+abbrev pub sumRefusal : List ℕ → ℕ
+sumRefusal f = refusal4 f orElse refusal5 f
 
 -- 1, 2 and 3 are judged together, and then 4 and 5
-pub link-parts : (f : List ℕ) → linkRefusal f ≡ (refusal1 (length f) orElse (refusal2 f orElse refusal3 f)) orElse (refusal4 f orElse refusal5 f)
+pub link-parts : (f : List ℕ) → linkRefusal f ≡ formRefusal f orElse sumRefusal f
 unfolding linkRefusal
 link-parts f =
-    ap (λ (r : ℕ). refusal1 (length f) orElse r) (orElse-assoc (refusal2 f) (refusal3 f) (refusal4 f orElse refusal5 f))
-    ∙ orElse-assoc (refusal1 (length f)) (refusal2 f orElse refusal3 f) (refusal4 f orElse refusal5 f)
+    ap (λ (r : ℕ). refusal1 (length f) orElse r) (orElse-assoc (refusal2 f) (refusal3 f) (sumRefusal f))
+    ∙ orElse-assoc (refusal1 (length f)) (refusal2 f orElse refusal3 f) (sumRefusal f)
+
+-- and whatever comes after them
+link-then : (f : List ℕ) (n : ℕ) → formRefusal f orElse (sumRefusal f orElse n) ≡ linkRefusal f orElse n
+link-then f n = orElse-assoc (formRefusal f) (sumRefusal f) n ∙ ap (λ (r : ℕ). r orElse n) (sym (link-parts f))
+
+-- two numbers judged one by one, then put in order
+pub in-order : (a b x y n : ℕ) → x ≡ a → y ≡ b → n ≡ x orElse y → n ≡ a orElse b
+in-order a b x y n p q e = e ∙ ap₂ _orElse_ p q
+
+-- what stands at each return of an order that begins with the link's numbers: the form's, the sum's, or the rest n
+module _ (f : List ℕ) (form : ℕ) (form-is : form ≡ formRefusal f) where
+  pub at-form : (n : ℕ) → (form ≡ 0 → ⊥) → form ≡ linkRefusal f orElse n
+  at-form n h = orElse-take (formRefusal f) (sumRefusal f orElse n) form form-is h ∙ link-then f n
+
+  past-form : (n r : ℕ) → form ≡ 0 → r ≡ sumRefusal f orElse n → r ≡ linkRefusal f orElse n
+  past-form n r z e = orElse-pass (formRefusal f) (sumRefusal f orElse n) form r form-is z e ∙ link-then f n
+
+  pub at-sum : (sum n : ℕ) → form ≡ 0 → sum ≡ sumRefusal f → (sum ≡ 0 → ⊥) → sum ≡ linkRefusal f orElse n
+  at-sum sum n z e h = past-form n sum z (orElse-take (sumRefusal f) n sum e h)
+
+  pub past-sum : (sum n r : ℕ) → form ≡ 0 → sum ≡ sumRefusal f → sum ≡ 0 → r ≡ n → r ≡ linkRefusal f orElse n
+  past-sum sum n r z e s h = past-form n r z (orElse-pass (sumRefusal f) n sum r e s h)
+
+  -- the same in a call of one kind, where 19 is judged with the sum and after it
+  pub at-call : (call : Bool) (sum other first n : ℕ) → form ≡ 0 → sum ≡ sumRefusal f → other ≡ refusal19 call f → first ≡ sum orElse other → (first ≡ 0 → ⊥)
+      → first ≡ linkRefusal f orElse refusal19 call f orElse n
+  at-call call sum other first n z p q e h =
+      past-form (refusal19 call f orElse n) first z
+      (orElse-take (sumRefusal f orElse refusal19 call f) n first (in-order (sumRefusal f) (refusal19 call f) sum other first p q e) h ∙ sym (orElse-assoc (sumRefusal f) (refusal19 call f) n))
+
+  pub past-call : (call : Bool) (sum other first n r : ℕ) → form ≡ 0 → sum ≡ sumRefusal f → other ≡ refusal19 call f → first ≡ sum orElse other → first ≡ 0 → r ≡ n
+      → r ≡ linkRefusal f orElse refusal19 call f orElse n
+  past-call call sum other first n r z p q e s h =
+      past-form (refusal19 call f orElse n) r z
+      (orElse-pass (sumRefusal f orElse refusal19 call f) n first r (in-order (sumRefusal f) (refusal19 call f) sum other first p q e) s h ∙ sym (orElse-assoc (sumRefusal f) (refusal19 call f) n))
 
 -- 1 to 5
 pub record Linked (f : List ℕ) : Type 0 where
@@ -133,16 +176,16 @@ signal-taken f h =
     let q = orElse-zero _ _ (p .1) in
     (link-passes f (p .0), layout-passes f (q .1), refuse-zero _ 18 (q .0))
 
--- a frame of fewer than ten octets is refused by 1, whatever comes after the link's numbers
-pub too-short : (f : List ℕ) (n : ℕ) → length f < 10 → 1 ≡ linkRefusal f orElse n
-unfolding linkRefusal
-too-short f n h = rw (lt-ltb (length f) 10 h)
-
 -- 7, 8 and 9 of the numbers that they go by
-pub laid : (f : List ℕ) (voice : Bool) (len fifth st t d w p l whole q r7 r8 r9 u n : ℕ) → voice ≡ isVoice f → len ≡ length f → fifth ≡ octet 5 f → st ≡ octet 6 f → t ≡ coding f
-    → d ≡ droppableBits t → w ≡ d → p ≡ cond voice w 0 → r7 ≡ refuse (not (eqb (fifth / 16 % 4) p) || ltb (fifth / 16 % 4) (fifth % 4)) 7
-    → l ≡ fifth / 16 % 4 - fifth % 4 → whole ≡ frameLength t l → q ≡ cond voice whole 10 → r8 ≡ refuse (not (eqb len q)) 8 → r9 ≡ refuse (ltb 200 st) 9
-    → u ≡ r8 orElse r9 → n ≡ r7 orElse u → n ≡ layoutRefusal f
+pub laid : (f : List ℕ) (m c len st most whole r7 r8 r9 u n : ℕ) → m ≡ fieldM f → c ≡ fieldC f → len ≡ length f → st ≡ stamp f
+    → most ≡ cond (isVoice f) (droppableBits (coding f)) 0 → whole ≡ legalLength f
+    → r7 ≡ refuse (not (eqb m most) || ltb m c) 7 → r8 ≡ refuse (not (eqb len whole)) 8 → r9 ≡ refuse (ltb 200 st) 9 → u ≡ r8 orElse r9 → n ≡ r7 orElse u
+    → n ≡ layoutRefusal f
 unfolding layoutRefusal
-laid f voice len fifth st t d w p l whole q r7 r8 r9 u n ev el e5 e6 et ed ew ep e7 eL eW eq e8 e9 eu en =
-    rw (← e5, ← e6, ← ev, ← el, en, eu, e9, e8, eq, eW, eL, e7, ep, ew, ed, et)
+laid f m c len st most whole r7 r8 r9 u n em ec el es eM eW e7 e8 e9 eu en =
+    let at7 : r7 ≡ refusal7 f =
+    e7 ∙ ap₂ (λ (x y : ℕ). refuse (not (eqb x y) || ltb x c) 7) em eM
+    ∙ ap (λ (x : ℕ). refuse (not (eqb (fieldM f) (cond (isVoice f) (droppableBits (coding f)) 0)) || ltb (fieldM f) x) 7) ec in
+    let at8 : r8 ≡ refusal8 f = e8 ∙ ap₂ (λ (x y : ℕ). refuse (not (eqb x y)) 8) el eW in
+    let at9 : r9 ≡ refusal9 f = e9 ∙ ap (λ (x : ℕ). refuse (ltb 200 x) 9) es in
+    in-order (refusal7 f) (refusal8 f orElse refusal9 f) r7 u n at7 (in-order (refusal8 f) (refusal9 f) r8 r9 u at8 at9 eu) en

@@ -1,13 +1,14 @@
 // A frame: its fields, what refuses it, and the two calls that say what it is.
 ghost use mathlib.Core.Path.{_≡_};
-ghost use mathlib.Core.Bool.{true, false};
+ghost use mathlib.Core.Bool.{true, false, cond};
 ghost use mathlib.Core.List.{List};
 ghost use Prim.Native.Nat.{ℕ, _<_, _≤_};
 ghost use lib.ListN.{length};
 ghost use Rattle.octets.specs.Octets.{octet};
-ghost use Rattle.refusals.specs.Refusals.{_orElse_};
+ghost use Rattle.refusals.specs.Refusals.{_orElse_, refusal1};
+ghost use Rattle.coding.specs.Coding.{droppableBits};
 ghost use Rattle.frame.specs.Fields.{address, control, isVoice, fieldM, fieldC, stamp, moreBit, coding as codingOf, sequence, noise, na, signalBits};
-ghost use Rattle.frame.specs.Orders.{refusal2, refusal3, refusal4, refusal5, refusal6, refusal19, linkRefusal, layoutRefusal, takenRefusal, voiceRefusal, signalRefusal};
+ghost use Rattle.frame.specs.Orders.{refusal2, refusal3, refusal4, refusal5, refusal6, refusal19, legalLength, linkRefusal, layoutRefusal, takenRefusal, voiceRefusal, signalRefusal};
 ghost use Rattle.frame.specs.Calls.{linkAnswer, takenAnswer};
 use coding::Coding;
 use octets::at;
@@ -122,18 +123,28 @@ fn refusal_6(frame: &[u8]) -> u8
     refuse(is_voice(frame) & coding_of(frame).reserved(), 6)
 }
 
-// 7, 8 and 9, of the octets and the length that they go by: numbers pass in registers, a slice through memory.
+// 7, 8 and 9, whatever the frame is: `most` is the M that it may have, `whole` the length.
+fn laid_out(m: usize, c: usize, len: usize, stamp: u8, most: usize, whole: usize) -> u8
+    ensures { λ r. ⌜ ((f : List ℕ) → m ≡ fieldM f → c ≡ fieldC f → len ≡ length f → stamp ≡ octet 6 f → most ≡ cond (isVoice f) (droppableBits (codingOf f)) 0 → whole ≡ legalLength f → r ≡ layoutRefusal f) ⌝ }
+{
+    let r7 = refuse((m != most) | (m < c), 7);
+    let r8 = refuse(len != whole, 8);
+    let r9 = refuse(200 < stamp, 9);
+    or_else(r7, or_else(r8, r9))
+}
+
+// The same of the octets and the length that they go by: numbers pass in registers, a slice through memory.
 fn layout_by(voice: bool, len: usize, fifth: usize, stamp: u8, coding: Coding) -> u8
     ensures { λ r. ⌜ ((f : List ℕ) → voice ≡ isVoice f → len ≡ length f → fifth ≡ octet 5 f → stamp ≡ octet 6 f → coding .0 ≡ codingOf f → r ≡ layoutRefusal f) ⌝ }
 {
     let m = fifth / 16 % 4;
     let c = fifth % 4;
-    let d = octets::wide(coding.droppable_bits());
-    let r7 = refuse((m != octets::pick(voice, d, 0)) | (m < c), 7);
-    let whole = coding.frame_length(octets::less(m, c));
-    let r8 = refuse(len != octets::pick(voice, whole, 10), 8);
-    let r9 = refuse(200 < stamp, 9);
-    or_else(r7, or_else(r8, r9))
+    if voice {
+        let most = octets::wide(coding.droppable_bits());
+        let whole = coding.frame_length(octets::less(m, c));
+        return laid_out(m, c, len, stamp, most, whole);
+    }
+    laid_out(m, c, len, stamp, 0, 10)
 }
 
 fn refusal_19(frame: &[u8], voicecall: bool) -> u8
@@ -147,25 +158,43 @@ fn refusal_19(frame: &[u8], voicecall: bool) -> u8
     }
 }
 
+// 1, 2 and 3. Below the return the compiler knows the length, and tests no index.
+fn form_refusal(frame: &[u8]) -> u8
+    ensures { λ r. ⌜ r ≡ refusal1 (length (now (frame .entry))) orElse refusal2 (now (frame .entry)) orElse refusal3 (now (frame .entry)) ⌝ }
+{
+    let size = refusals::refusal_1(frame.len());
+    if size != 0 {
+        return size;
+    }
+    or_else(refusal_2(frame), refusal_3(frame))
+}
+
+// 4 and 5.
+fn sum_refusal(frame: &[u8]) -> u8
+    ensures { λ r. ⌜ r ≡ refusal4 (now (frame .entry)) orElse refusal5 (now (frame .entry)) ⌝ }
+{
+    or_else(refusal_4(frame), refusal_5(frame))
+}
+
 // What costs no sum is judged first: a frame of a megabyte, or one of another protocol, is refused at once.
 pub fn link_refusal(frame: &[u8]) -> u8
     ensures { λ r. ⌜ r ≡ linkRefusal (now (frame .entry)) ⌝ }
 {
-    let form = or_else(refusal_2(frame), refusal_3(frame));
-    let first = or_else(refusals::refusal_1(frame.len()), form);
-    if first != 0 {
-        return first;
+    let form = form_refusal(frame);
+    if form != 0 {
+        return form;
     }
-    or_else(refusal_4(frame), refusal_5(frame))
+    sum_refusal(&*frame)
 }
 
 pub fn taken_refusal(frame: &[u8]) -> u8
     ensures { λ r. ⌜ r ≡ takenRefusal (now (frame .entry)) ⌝ }
 {
-    if frame.len() < 10 {
-        return 1;
+    let form = form_refusal(frame);
+    if form != 0 {
+        return form;
     }
-    let first = link_refusal(&*frame);
+    let first = sum_refusal(&*frame);
     if first != 0 {
         return first;
     }
@@ -183,14 +212,17 @@ pub fn taken_refusal(frame: &[u8]) -> u8
 pub fn voice_refusal(frame: &[u8]) -> u8
     ensures { λ r. ⌜ r ≡ voiceRefusal (now (frame .entry)) ⌝ }
 {
-    if frame.len() < 10 {
-        return 1;
+    let form = form_refusal(frame);
+    if form != 0 {
+        return form;
     }
-    let first = or_else(link_refusal(&*frame), refusal_19(frame, true));
+    let sum = sum_refusal(&*frame);
+    let signalling = refusal_19(frame, true);
+    let first = or_else(sum, signalling);
     if first != 0 {
         return first;
     }
-    let r6 = refusal_6(frame);
+    let reserved = refusal_6(frame);
     let laid = layout_by(
         is_voice(frame),
         frame.len(),
@@ -198,16 +230,19 @@ pub fn voice_refusal(frame: &[u8]) -> u8
         stamp_of(frame),
         coding_of(frame),
     );
-    or_else(r6, laid)
+    or_else(reserved, laid)
 }
 
 pub fn signal_refusal(frame: &[u8]) -> u8
     ensures { λ r. ⌜ r ≡ signalRefusal (now (frame .entry)) ⌝ }
 {
-    if frame.len() < 10 {
-        return 1;
+    let form = form_refusal(frame);
+    if form != 0 {
+        return form;
     }
-    let first = or_else(link_refusal(&*frame), refusal_19(frame, false));
+    let sum = sum_refusal(&*frame);
+    let voice = refusal_19(frame, false);
+    let first = or_else(sum, voice);
     if first != 0 {
         return first;
     }
