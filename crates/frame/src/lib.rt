@@ -1,8 +1,8 @@
 // A frame: its fields, what refuses it, and the two calls that say what it is.
 ghost use mathlib.Core.Path.{_≡_};
-ghost use mathlib.Core.Bool.{true, false, cond};
+ghost use mathlib.Core.Bool.{cond};
 ghost use mathlib.Core.List.{List};
-ghost use Prim.Native.Nat.{ℕ, _<_, _≤_};
+ghost use Prim.Native.Nat.{ℕ, _<_};
 ghost use lib.ListN.{length};
 ghost use Rattle.octets.specs.Octets.{octet};
 ghost use Rattle.refusals.specs.Refusals.{_orElse_, refusal1};
