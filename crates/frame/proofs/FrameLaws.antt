@@ -1,4 +1,4 @@
--- What is known of a frame that nothing refuses, both ways.
+-- How the orders are judged in steps, and what is known of a frame that nothing refuses, both ways.
 use Prim.Native.Nat.{ℕ, _%_, _≤_}
 use mathlib.Core.Path.{_≡_, sym, ap, ap₂, _∙_}
 use mathlib.Core.Bool.{Bool, true, false, _&&_, _||_, not, cond}
@@ -177,15 +177,16 @@ signal-taken f h =
     (link-passes f (p .0), layout-passes f (q .1), refuse-zero _ 18 (q .0))
 
 -- 7, 8 and 9 of the numbers that they go by
+seven : (m most c m' most' c' : ℕ) → m ≡ m' → most ≡ most' → c ≡ c' → refuse (not (eqb m most) || ltb m c) 7 ≡ refuse (not (eqb m' most') || ltb m' c') 7
+seven m most c m' most' c' p q r = ap₂ (λ (x y : ℕ). refuse (not (eqb x y) || ltb x c) 7) p q ∙ ap (λ (x : ℕ). refuse (not (eqb m' most') || ltb m' x) 7) r
+
 pub laid : (f : List ℕ) (m c len st most whole r7 r8 r9 u n : ℕ) → m ≡ fieldM f → c ≡ fieldC f → len ≡ length f → st ≡ stamp f
     → most ≡ cond (isVoice f) (droppableBits (coding f)) 0 → whole ≡ legalLength f
     → r7 ≡ refuse (not (eqb m most) || ltb m c) 7 → r8 ≡ refuse (not (eqb len whole)) 8 → r9 ≡ refuse (ltb 200 st) 9 → u ≡ r8 orElse r9 → n ≡ r7 orElse u
     → n ≡ layoutRefusal f
 unfolding layoutRefusal
 laid f m c len st most whole r7 r8 r9 u n em ec el es eM eW e7 e8 e9 eu en =
-    let at7 : r7 ≡ refusal7 f =
-    e7 ∙ ap₂ (λ (x y : ℕ). refuse (not (eqb x y) || ltb x c) 7) em eM
-    ∙ ap (λ (x : ℕ). refuse (not (eqb (fieldM f) (cond (isVoice f) (droppableBits (coding f)) 0)) || ltb (fieldM f) x) 7) ec in
+    let at7 : r7 ≡ refusal7 f = e7 ∙ seven m most c (fieldM f) (cond (isVoice f) (droppableBits (coding f)) 0) (fieldC f) em eM ec in
     let at8 : r8 ≡ refusal8 f = e8 ∙ ap₂ (λ (x y : ℕ). refuse (not (eqb x y)) 8) el eW in
     let at9 : r9 ≡ refusal9 f = e9 ∙ ap (λ (x : ℕ). refuse (ltb 200 x) 9) es in
     in-order (refusal7 f) (refusal8 f orElse refusal9 f) r7 u n at7 (in-order (refusal8 f) (refusal9 f) r8 r9 u at8 at9 eu) en

@@ -123,7 +123,7 @@ fn refusal_6(frame: &[u8]) -> u8
     refuse(is_voice(frame) & coding_of(frame).reserved(), 6)
 }
 
-// 7, 8 and 9, whatever the frame is: `most` is the M that it may have, `whole` the length.
+// 7, 8 and 9 of voice and of signalling alike: `most` is the M that the frame must have, `whole` its length.
 fn laid_out(m: usize, c: usize, len: usize, stamp: u8, most: usize, whole: usize) -> u8
     ensures { λ r. ⌜ ((f : List ℕ) → m ≡ fieldM f → c ≡ fieldC f → len ≡ length f → stamp ≡ octet 6 f → most ≡ cond (isVoice f) (droppableBits (codingOf f)) 0 → whole ≡ legalLength f → r ≡ layoutRefusal f) ⌝ }
 {
@@ -169,7 +169,7 @@ fn form_refusal(frame: &[u8]) -> u8
     or_else(refusal_2(frame), refusal_3(frame))
 }
 
-// 4 and 5.
+// 4 and 5: the check sequence is summed only once the form is right.
 fn sum_refusal(frame: &[u8]) -> u8
     ensures { λ r. ⌜ r ≡ refusal4 (now (frame .entry)) orElse refusal5 (now (frame .entry)) ⌝ }
 {

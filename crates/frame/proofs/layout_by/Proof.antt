@@ -10,22 +10,22 @@ use Rattle.frame.specs.Orders.{legalLength}
 use Rattle.frame.proofs.layout_by.Statement.{statement}
 use Rattle.frame.proofs.layout_by.Tie as tie
 
--- the M that a frame may have and its length, of what it is: D and the coding type's for voice, 0 and 10 for signalling
-module _ (f : List ℕ) (voice : Bool) (is : voice ≡ isVoice f) where
-  module _ (t d wide lost whole fifth : ℕ) (is-t : t ≡ coding f) (is-5 : fifth ≡ octet 5 f) (v : voice ≡ true) where
-    voice-most : d ≡ droppableBits t → wide ≡ d → wide ≡ cond (isVoice f) (droppableBits (coding f)) 0
-    voice-most p q = q ∙ p ∙ ap droppableBits is-t ∙ ap (λ (x : Bool). cond x (droppableBits (coding f)) 0) (sym v ∙ is)
+-- the M that a frame may have, and its length, by what the branch found it to be
+module _ (f : List ℕ) (voice branch : Bool) (is : voice ≡ isVoice f) (found : voice ≡ branch) where
+  most-is : (n : ℕ) → n ≡ cond branch (droppableBits (coding f)) 0 → n ≡ cond (isVoice f) (droppableBits (coding f)) 0
+  most-is n e = e ∙ ap (λ (x : Bool). cond x (droppableBits (coding f)) 0) (sym found ∙ is)
 
-    voice-whole : lost ≡ fifth / 16 % 4 - fifth % 4 → whole ≡ frameLength t lost → whole ≡ legalLength f
-    voice-whole p q =
-        q ∙ ap₂ frameLength is-t (p ∙ ap (λ (x : ℕ). x / 16 % 4 - x % 4) is-5)
-        ∙ ap (λ (x : Bool). cond x (frameLength (coding f) (fieldM f - fieldC f)) 10) (sym v ∙ is)
+  whole-is : (n : ℕ) → n ≡ cond branch (frameLength (coding f) (fieldM f - fieldC f)) 10 → n ≡ legalLength f
+  whole-is n e = e ∙ ap (λ (x : Bool). cond x (frameLength (coding f) (fieldM f - fieldC f)) 10) (sym found ∙ is)
 
-  signal-most : (most : ℕ) → voice ≡ false → most ≡ 0 → most ≡ cond (isVoice f) (droppableBits (coding f)) 0
-  signal-most most v p = p ∙ ap (λ (x : Bool). cond x (droppableBits (coding f)) 0) (sym v ∙ is)
+-- of voice: D, and the length that the coding type gives
+module _ (f : List ℕ) (t : ℕ) (is-t : t ≡ coding f) where
+  most-of : (d wide : ℕ) → d ≡ droppableBits t → wide ≡ d → wide ≡ droppableBits (coding f)
+  most-of d wide p q = q ∙ p ∙ ap droppableBits is-t
 
-  signal-whole : (whole : ℕ) → voice ≡ false → whole ≡ 10 → whole ≡ legalLength f
-  signal-whole whole v p = p ∙ ap (λ (x : Bool). cond x (frameLength (coding f) (fieldM f - fieldC f)) 10) (sym v ∙ is)
+  whole-of : (fifth lost whole : ℕ) → fifth ≡ octet 5 f → lost ≡ fifth / 16 % 4 - fifth % 4 → whole ≡ frameLength t lost
+      → whole ≡ frameLength (coding f) (fieldM f - fieldC f)
+  whole-of fifth lost whole e p q = q ∙ ap₂ frameLength is-t (p ∙ ap (λ (x : ℕ). x / 16 % 4 - x % 4) e)
 
 droppable-bits-requires : tie.Need-droppable-bits-requires
 droppable-bits-requires c κs = tt
@@ -51,8 +51,8 @@ returns c = λ f ev el e5 e6 et.
     let v = c .before .before .before .before .before .if1 .taken in
     let a = c .before .before .before .before .before .before .args in
     c .laid-out .ensures f (ap (λ (x : ℕ). x / 16 % 4) e5) (ap (λ (x : ℕ). x % 4) e5) el e6
-    (voice-most f (a .voice) ev (a .coding .0) (d .result) (wide .result) (lost .result) (whole .result) (a .fifth) et e5 v (d .ensures) (wide .ensures .0))
-    (voice-whole f (a .voice) ev (a .coding .0) (d .result) (wide .result) (lost .result) (whole .result) (a .fifth) et e5 v (lost .ensures) (whole .ensures))
+    (most-is f (a .voice) true ev v (wide .result) (most-of f (a .coding .0) et (d .result) (wide .result) (d .ensures) (wide .ensures .0)))
+    (whole-is f (a .voice) true ev v (whole .result) (whole-of f (a .coding .0) et (a .fifth) (lost .result) (whole .result) e5 (lost .ensures) (whole .ensures)))
 
 laid-out-requires-2 : tie.Need-laid-out-requires-2
 laid-out-requires-2 c κs = tt
@@ -62,8 +62,8 @@ returns-2 c = λ f ev el e5 e6 et.
     let v = c .before .if1 .left in
     let a = c .before .before .args in
     c .laid-out2 .ensures f (ap (λ (x : ℕ). x / 16 % 4) e5) (ap (λ (x : ℕ). x % 4) e5) el e6
-    (signal-most f (a .voice) ev 0 v refl)
-    (signal-whole f (a .voice) ev 10 v refl)
+    (most-is f (a .voice) false ev v 0 refl)
+    (whole-is f (a .voice) false ev v 10 refl)
 
 pub layout-by-spec : {M : Type 1} → statement M
 layout-by-spec = tie.close (tie.spec droppable-bits-requires wide-requires less-requires frame-length-requires laid-out-requires returns laid-out-requires-2 returns-2)
