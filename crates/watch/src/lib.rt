@@ -7,7 +7,7 @@ ghost use mathlib.Core.Bool.{cond};
 ghost use Prim.Native.Nat.{_+_};
 ghost use lib.Dec.{leb};
 ghost use Rattle.watch.specs.Table.{table, conditioned, change, sendsBoth};
-ghost use Rattle.watch.specs.Watch.{refusal21, refusal18, brought12, eventRefusal, whenPast, inUse, reading, brought, sentAfter, standing, eventRow, bitsAfter, takenAfter, naOf, ifSent, freshWatch, only, answered, startAnswer, eventAnswer};
+ghost use Rattle.watch.specs.Watch.{statesOffered, refreshOffered, keepAliveOffered, refusal21, refusal18, brought12, eventRefusal, startRefusal, whenPast, inUse, reading, brought, sentAfter, standing, eventRow, bitsAfter, takenAfter, naOf, ifSent, freshWatch, only, answered, startAnswer, eventAnswer};
 
 // The clocks are counts of ms up to 2^62.
 const CLOCK_LIMIT: u64 = 4611686018427387904;
@@ -160,18 +160,65 @@ fn change(before: bool, after: bool) -> Conditioning
     Conditioning::Unchanged
 }
 
+// Each of these three is left at the first value that fits, the likeliest first: most events come upon a watch that is offered.
+fn states_offered(states: u8) -> bool
+    ensures { λ r. ⌜ r ≡ statesOffered states ⌝ }
+{
+    if states == 16 {
+        return true;
+    }
+    if states == 4 {
+        return true;
+    }
+    states < 3
+}
+
+fn refresh_offered(refresh: u32) -> bool
+    ensures { λ r. ⌜ r ≡ refreshOffered refresh ⌝ }
+{
+    if refresh == 10000 {
+        return true;
+    }
+    if refresh == 5000 {
+        return true;
+    }
+    if refresh == 1000 {
+        return true;
+    }
+    refresh == 20000
+}
+
+// Ten times the keep-alive, for a half is no whole number.
+fn keep_alive_offered(refresh: u32, keepalive: u32) -> bool
+    ensures { λ r. ⌜ r ≡ keepAliveOffered refresh keepalive ⌝ }
+{
+    let once = refresh as u64;
+    let tenfold = (keepalive as u64) * 10;
+    if tenfold == once * 15 {
+        return true;
+    }
+    if tenfold == once * 25 {
+        return true;
+    }
+    if tenfold == once * 35 {
+        return true;
+    }
+    tenfold == once * 45
+}
+
 fn refusal_21(states: u8, refresh: u32, keepalive: u32) -> u8
     ensures { λ r. ⌜ r ≡ refusal21 states refresh keepalive ⌝ }
 {
-    let provision = (states == 0) | (states == 1) | (states == 2) | (states == 4) | (states == 16);
-    let every = (refresh == 1000) | (refresh == 5000) | (refresh == 10000) | (refresh == 20000);
-    let once = refresh as u64;
-    let tenfold = (keepalive as u64) * 10;
-    let alive = (tenfold == once * 15)
-        | (tenfold == once * 25)
-        | (tenfold == once * 35)
-        | (tenfold == once * 45);
-    refuse(!(provision & every & alive), 21)
+    if !states_offered(states) {
+        return 21;
+    }
+    if !refresh_offered(refresh) {
+        return 21;
+    }
+    if !keep_alive_offered(refresh, keepalive) {
+        return 21;
+    }
+    0
 }
 
 fn refusal_18(last: u64, clock: u64) -> u8
@@ -194,15 +241,33 @@ fn brought_12(event: Event) -> u8
 fn event_refusal(w: Watch, clock: u64, event: Event) -> u8
     ensures { λ r. ⌜ r ≡ eventRefusal w clock event ⌝ }
 {
-    let last = w.lastclock;
     let r21 = refusal_21(w.states, w.refresh, w.keepalive);
+    if r21 != 0 {
+        return r21;
+    }
+    let last = w.lastclock;
     let r14 = refuse(
         (CLOCK_LIMIT < last) | (last < w.lastsent) | (last < w.lasttaken),
         14,
     );
+    if r14 != 0 {
+        return r14;
+    }
     let r18 = refusal_18(last, clock);
-    let r12 = or_else(refusal_12(w.bits, 0), brought_12(event));
-    or_else(r21, or_else(r14, or_else(r18, r12)))
+    if r18 != 0 {
+        return r18;
+    }
+    or_else(refusal_12(w.bits, 0), brought_12(event))
+}
+
+fn start_refusal(states: u8, refresh: u32, keepalive: u32, clock: u64) -> u8
+    ensures { λ r. ⌜ r ≡ startRefusal states refresh keepalive clock ⌝ }
+{
+    let r21 = refusal_21(states, refresh, keepalive);
+    if r21 != 0 {
+        return r21;
+    }
+    refusal_18(0, clock)
 }
 
 // What comes when the clock is ms or more past from. The difference is judged, for the sum may not fit.
@@ -428,7 +493,7 @@ fn fresh(states: u8, refresh: u32, keepalive: u32, clock: u64) -> Watch
 pub fn start(states: u8, refresh: u32, keepalive: u32, clock: u64) -> Watched
     ensures { λ r. ⌜ r ≡ startAnswer states refresh keepalive clock ⌝ }
 {
-    let n = or_else(refusal_21(states, refresh, keepalive), refusal_18(0, clock));
+    let n = start_refusal(states, refresh, keepalive, clock);
     if n != 0 {
         return only(n, fresh(0, 0, 0, 0));
     }
