@@ -1,4 +1,4 @@
-use Rattle.watch.specs.Watch.{answered}
+use Rattle.watch.proofs.WatchLaws.{answer-is}
 use Rattle.watch.proofs.answered.Statement.{statement}
 use Rattle.watch.proofs.answered.Tie as tie
 
@@ -21,8 +21,15 @@ taken-after-requires : tie.Need-taken-after-requires
 taken-after-requires c κs = tt
 
 returns : tie.Need-returns
-unfolding answered
-returns c = cc
+returns c =
+    let a = c .before .before .before .before .before .before .args in
+    answer-is (a .w) (a .clock) (a .event) (a .left) _ _ _ _ _ _
+    (c .before .before .before .before .before .bits-after .ensures)
+    (c .before .before .before .before .if-sent .ensures)
+    (c .before .before .before .na-of .ensures)
+    (c .before .before .if-sent2 .ensures)
+    (c .before .sent-after .ensures)
+    (c .taken-after .ensures)
 
 pub answered-spec : {M : Type 1} → statement M
 answered-spec =

@@ -1,5 +1,6 @@
 use Rattle.watch.proofs.WatchLaws.{row-is}
-use mathlib.Core.Path.{_∙_}
+use mathlib.Core.Path.{ap₂, _∙_}
+use Rattle.watch.specs.Table.{change}
 use Rattle.watch.proofs.event_row.Statement.{statement}
 use Rattle.watch.proofs.event_row.Tie as tie
 
@@ -46,7 +47,7 @@ returns c =
     (c .before .before .before .before .before .before .before .originating-next .ensures t₁)
     (c .before .before .before .before .sends-next .ensures o t₁)
     (c .before .before .before .event-sends .ensures)
-    (c .change .ensures ∙ cc)
+    (c .change .ensures ∙ ap₂ change (c .before .before .conditioned .ensures) (c .before .conditioned2 .ensures))
 
 pub event-row-spec : {M : Type 1} → statement M
 event-row-spec =

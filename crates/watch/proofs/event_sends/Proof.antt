@@ -3,10 +3,9 @@ use Rattle.watch.specs.Table.{table}
 use Rattle.watch.specs.declared.Terminating.the-variants.{Norm as NORM}
 use Rattle.watch.specs.declared.Originating.the-variants.{Norm as NORMAL}
 use Rattle.watch.specs.declared.Coming.{Coming}
-use mathlib.Core.Path.{ap, _∙_}
+use mathlib.Core.Path.{refl, ap, _∙_}
 use lib.Dec.{leb}
 use Prim.Native.Nat.{_+_}
-use borrow.Author.Needs.{needs}
 use Rattle.watch.proofs.event_sends.Statement.{statement}
 use Rattle.watch.proofs.event_sends.Tie as tie
 
@@ -32,10 +31,10 @@ returns c =
     (c .sends-next .ensures NORMAL NORM ∙ ap (λ (x : Coming). table NORMAL NORM x .sends) (c .before .when-past .ensures) ∙ due-sends NORMAL NORM (leb (a .lastsent + a .refresh) (a .clock)))
 
 returns-2 : tie.Need-returns-2
-returns-2 c = search needs
+returns-2 c = rw (c .enum-told2 .given .1) refl
 
 returns-3 : tie.Need-returns-3
-returns-3 c = search needs
+returns-3 c = rw (c .enum-told3 .given .1) refl
 
 pub event-sends-spec : {M : Type 1} → statement M
 event-sends-spec =

@@ -1,12 +1,11 @@
 use borrow.Author.Tests.{eq-eqb, ne-eqb}
 use Rattle.watch.specs.Watch.{inUse}
-use mathlib.Core.Path.{_≡_, sym, _∙_}
-use borrow.Author.Needs.{needs}
+use mathlib.Core.Path.{_≡_, refl, sym, _∙_}
 use Rattle.watch.proofs.reading.Statement.{statement}
 use Rattle.watch.proofs.reading.Tie as tie
 
 returns : tie.Need-returns
-returns c = search needs
+returns c = rw (c .if1 .taken) refl
 
 in-use-requires : tie.Need-in-use-requires
 in-use-requires c κs = tt
@@ -27,5 +26,3 @@ returns-3 c =
 
 pub reading-spec : {M : Type 1} → statement M
 reading-spec = tie.close (tie.spec returns in-use-requires in-use-requires-2 returns-2 returns-3)
-
--- t
