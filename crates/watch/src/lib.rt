@@ -160,7 +160,7 @@ fn change(before: bool, after: bool) -> Conditioning
     Conditioning::Unchanged
 }
 
-// Each of these three is left at the first value that fits, the likeliest first: most events come upon a watch that is offered.
+// Each of these three returns at the first value that fits, for a test that is foreseen costs less than all of them joined.
 fn states_offered(states: u8) -> bool
     ensures { λ r. ⌜ r ≡ statesOffered states ⌝ }
 {
@@ -188,7 +188,7 @@ fn refresh_offered(refresh: u32) -> bool
     refresh == 20000
 }
 
-// Ten times the keep-alive, for a half is no whole number.
+// The keep-alive is judged tenfold, since 1.5 is no whole number.
 fn keep_alive_offered(refresh: u32, keepalive: u32) -> bool
     ensures { λ r. ⌜ r ≡ keepAliveOffered refresh keepalive ⌝ }
 {
@@ -238,6 +238,7 @@ fn brought_12(event: Event) -> u8
     }
 }
 
+// The order, left at the first number that applies.
 fn event_refusal(w: Watch, clock: u64, event: Event) -> u8
     ensures { λ r. ⌜ r ≡ eventRefusal w clock event ⌝ }
 {
