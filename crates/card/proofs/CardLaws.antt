@@ -1,17 +1,15 @@
--- What is known of slices that are long enough, and what each lent slice holds where this form refuses, and where it does not.
+-- What is known of slices that are long enough, and what a call answers and leaves in each lent slice where this form refuses, and where it does not.
 use Prim.Native.Nat.{ℕ, _≤_}
 use mathlib.Core.Path.{_≡_, refl, sym, ap, subst, _∙_}
-use mathlib.Core.Bool.{Bool, true, false, cond, not, _||_}
+use mathlib.Core.Bool.{not}
 use mathlib.Core.List.{List, [], _∷_}
-use native.Mathlib.Nat.{le-refl}
 use native.Mathlib.Omega.{arith}
-use lib.Dec.{ltb, eqb}
-use lib.ListN.{length, take, set, length-take}
+use lib.Dec.{eqb}
+use lib.ListN.{length, set}
 use borrow.Author.Tests.{ltb-false, eqb-true, not-false}
 use Rattle.refusals.specs.Refusals.{_orElse_, refuse, refusal16}
-use Rattle.refusals.proofs.RefusalLaws.{orElse-zero, refuse-zero, refused-is, done-is}
-use Rattle.endpoint.specs.Fill.{fillOf}
-use Rattle.card.specs.Card.{put, written, recordRefusal}
+use Rattle.refusals.proofs.RefusalLaws.{orElse-zero, orElse-take, orElse-pass, refuse-zero, refused-is, done-is}
+use Rattle.card.specs.Card.{put, written}
 
 pub roomy : {n l r : ℕ} → r ≡ refusal16 l n → r ≡ 0 → n ≤ l
 roomy {n} {l} e z = ltb-false l n (refuse-zero _ 15 (sym e ∙ z))
@@ -24,12 +22,6 @@ roomy-two first n second m e z =
 pub sized : (k n : ℕ) {r : ℕ} → r ≡ refuse (not (eqb n k)) 14 → r ≡ 0 → n ≡ k
 sized k n e z = eqb-true n k (not-false (eqb n k) (refuse-zero _ 13 (sym e ∙ z)))
 
-pub six : (n : ℕ) {r : ℕ} → r ≡ recordRefusal n → r ≡ 0 → n ≡ 6
-six n e z = sized 6 n e z
-
-pub six-room : (n : ℕ) {r : ℕ} → r ≡ recordRefusal n → r ≡ 0 → 6 ≤ n
-six-room n e z = subst (λ (k : ℕ). 6 ≤ k) (sym (six n e z)) (le-refl 6)
-
 -- a count that is known, of values that fit
 pub within : {n k l : ℕ} → n ≡ k → n ≤ l → k ≤ l
 within {l = l} e h = subst (λ (x : ℕ). x ≤ l) e h
@@ -37,13 +29,6 @@ within {l = l} e h = subst (λ (x : ℕ). x ≤ l) e h
 -- an order whose parts are known
 pub both : {r a b x y : ℕ} → r ≡ a orElse b → a ≡ x → b ≡ y → r ≡ x orElse y
 both e p q = rw (← p, ← q) e
-
--- a fill fits where 128 do
-pub fill-fits : (last noise : List ℕ) (mlast : ℕ) → length (fillOf last noise mlast) ≤ 128
-fill-fits last noise mlast = go (ltb (length last) 128 || ltb (length noise) 128) where
-  go : (b : Bool) → length (cond b [] (take 128 (cond (eqb mlast 1) last noise))) ≤ 128
-  go true = omega arith
-  go false = rw length-take (omega arith)
 
 -- one value, stored
 pub stored : {A : Type 0} (x : A) (slot : List A) → 1 ≤ length slot → set slot 0 x ≡ put (x ∷ []) slot
@@ -64,3 +49,12 @@ module _ {A : Type 0} (flat r : ℕ) (values slot : List A) (e : r ≡ flat) whe
   -- by values that are known to be these
   pub answered-by : r ≡ 0 → (x : List A) {y : List A} → x ≡ put y slot → y ≡ values → x ≡ written flat values slot
   answered-by z x p q = answered z x (p ∙ ap (λ (v : List A). put v slot) q)
+
+-- a call that answers a number and writes numbers: refused by this form, and done
+module _ (flat r number : ℕ) (numbers slot : List ℕ) (e : r ≡ flat) where
+  pub not-called : (r ≡ 0 → ⊥) → (r ≡ flat orElse number) × (slot ≡ written flat numbers slot)
+  not-called h = (orElse-take flat number r e h, left-alone flat r numbers slot e h)
+
+  pub called : r ≡ 0 → (k : ℕ) (x : List ℕ) {y : List ℕ} → k ≡ number → x ≡ put y slot → y ≡ numbers
+      → (k ≡ flat orElse number) × (x ≡ written flat numbers slot)
+  called z k x n p q = (orElse-pass flat number r k e z n, answered-by flat r numbers slot e z x p q)

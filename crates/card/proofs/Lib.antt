@@ -1,4 +1,2 @@
 pub mod CardLaws
-pub mod KeptLaws
-pub mod WatchingLaws
 pub mod OneOutcome

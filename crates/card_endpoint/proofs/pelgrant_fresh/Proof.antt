@@ -1,0 +1,54 @@
+use Prim.Native.Nat.{ℕ}
+use mathlib.Core.List.{List}
+use mathlib.Core.Path.{sym, ap, _∙_}
+use lib.ListN.{length}
+use borrow.Author.Needs.{needs}
+use Rattle.card.specs.Card.{put, recordNumbers}
+use Rattle.card.proofs.CardLaws.{six-room, within, left-alone, answered}
+use Rattle.card_endpoint.proofs.pelgrant_fresh.Statement.{statement}
+use Rattle.card_endpoint.proofs.pelgrant_fresh.Tie as tie
+
+record-refusal-requires : tie.Need-record-refusal-requires
+record-refusal-requires c κs = search needs
+
+returns : tie.Need-returns
+returns c =
+    let e = c .before .record-refusal .ensures in
+    (e, left-alone _ _ _ _ e (c .if1 .taken))
+
+fresh-requires : tie.Need-fresh-requires
+fresh-requires c κs = search needs
+
+record-numbers-requires : tie.Need-record-numbers-requires
+record-numbers-requires c κs = search needs
+
+slice-aggregate-put : tie.Need-slice-aggregate-put
+slice-aggregate-put c = search needs
+
+put-requires : tie.Need-put-requires
+put-requires c κs = within (sym (ap length (c .before .before .record-numbers .ensures))) (six-room (length (c .before .before .before .before .before .before .before .args .kept .now)) (c .before .before .before .before .before .record-refusal .ensures) (c .before .before .before .before .if1 .left))
+
+same-length : tie.Need-same-length
+same-length c = search needs
+
+returns-2 : tie.Need-returns-2
+returns-2 c =
+    let e = c .before .before .before .before .before .before .before .before .record-refusal .ensures in
+    let z = c .before .before .before .before .before .before .before .if1 .left in
+    let f = c .before .before .before .before .before .before .fresh .ensures in
+    let n = c .before .before .before .before .before .record-numbers .ensures in
+    let p = c .before .before .put .ensures in
+    (sym (sym e ∙ z), answered _ _ _ _ e z _ (p ∙ ap (λ (l : List ℕ). put l (c .before .before .before .before .before .before .before .before .before .before .args .kept .now)) (n ∙ ap recordNumbers f)))
+
+pub pelgrant-fresh-spec : {M : Type 1} → statement M
+pelgrant-fresh-spec =
+    tie.close
+    (tie.spec
+    record-refusal-requires
+    returns
+    fresh-requires
+    record-numbers-requires
+    slice-aggregate-put
+    put-requires
+    same-length
+    returns-2)

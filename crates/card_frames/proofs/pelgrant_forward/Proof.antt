@@ -1,0 +1,44 @@
+use borrow.Author.Needs.{needs}
+use Rattle.card.proofs.CardLaws.{roomy}
+use Rattle.card_frames.proofs.FramesLaws.{not-sent, sent}
+use Rattle.card_frames.proofs.pelgrant_forward.Statement.{statement}
+use Rattle.card_frames.proofs.pelgrant_forward.Tie as tie
+
+refusal-16-requires : tie.Need-refusal-16-requires
+refusal-16-requires c κs = tt
+
+returns : tie.Need-returns
+returns c = not-sent _ _ _ _ _ (c .before .refusal-16 .ensures) (c .if1 .taken)
+
+forward-requires : tie.Need-forward-requires
+forward-requires c κs = tt
+
+slice-aggregate-put : tie.Need-slice-aggregate-put
+slice-aggregate-put c = search needs
+
+put-requires : tie.Need-put-requires
+put-requires c κs = roomy (c .before .before .before .before .before .before .before .refusal-16 .ensures) (c .before .before .before .before .before .before .if1 .left)
+
+same-length : tie.Need-same-length
+same-length c = search needs
+
+same-length-2 : tie.Need-same-length-2
+same-length-2 c = search needs
+
+returns-2 : tie.Need-returns-2
+returns-2 c =
+    let a = c .before .before .before .before .before .before .before .forward in
+    sent _ _ _ _ _ (c .before .before .before .before .before .before .before .before .before .before .refusal-16 .ensures) (c .before .before .before .before .before .before .before .before .before .if1 .left) _ _ _ (a .ensures .0) (c .before .before .put .ensures) (a .ensures .1)
+
+pub pelgrant-forward-spec : {M : Type 1} → statement M
+pelgrant-forward-spec =
+    tie.close
+    (tie.spec
+    refusal-16-requires
+    returns
+    forward-requires
+    slice-aggregate-put
+    put-requires
+    same-length
+    same-length-2
+    returns-2)
