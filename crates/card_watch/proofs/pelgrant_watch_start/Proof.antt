@@ -11,13 +11,13 @@ use Rattle.card_watch.proofs.pelgrant_watch_start.Statement.{statement}
 use Rattle.card_watch.proofs.pelgrant_watch_start.Tie as tie
 
 start-requires : tie.Need-start-requires
-start-requires c κs = search needs
+start-requires c κs = tt
 
 refuse-requires : tie.Need-refuse-requires
-refuse-requires c κs = search needs
+refuse-requires c κs = tt
 
 or-else-requires : tie.Need-or-else-requires
-or-else-requires c κs = search needs
+or-else-requires c κs = tt
 
 returns : tie.Need-returns
 returns c =
@@ -25,7 +25,7 @@ returns c =
     (e, left-alone _ _ _ _ e (c .if1 .taken))
 
 watch-numbers-requires : tie.Need-watch-numbers-requires
-watch-numbers-requires c κs = search needs
+watch-numbers-requires c κs = tt
 
 slice-aggregate-put : tie.Need-slice-aggregate-put
 slice-aggregate-put c = search needs

@@ -2,24 +2,23 @@ use mathlib.Core.Path.{sym, _∙_}
 use native.Mathlib.Omega.{arith}
 use lib.ListN.{length}
 use borrow.Author.Needs.{needs}
-use Rattle.refusals.proofs.RefusalLaws.{orElse-take, orElse-pass}
-use Rattle.card.proofs.CardLaws.{roomy, left-alone, answered-by}
+use Rattle.card.proofs.CardLaws.{roomy, left-alone, answered-by, not-called, called}
 use Rattle.card_watch.proofs.WatchingLaws.{done-fits}
 use Rattle.card_watch.proofs.pelgrant_watch_tell.Statement.{statement}
 use Rattle.card_watch.proofs.pelgrant_watch_tell.Tie as tie
 
 refusal-16-requires : tie.Need-refusal-16-requires
-refusal-16-requires c κs = search needs
+refusal-16-requires c κs = tt
 
 returns : tie.Need-returns
 returns c =
     let e = c .before .refusal-16 .ensures in
     let t = c .if1 .taken in
-    let o = orElse-take _ _ _ e t in
-    (o, (left-alone _ _ _ _ e t, left-alone _ _ _ _ o t))
+    let o = not-called _ _ _ _ _ e t in
+    (o .0, (o .1, left-alone _ _ _ _ (o .0) t))
 
 telling-requires : tie.Need-telling-requires
-telling-requires c κs = search needs
+telling-requires c κs = tt
 
 slice-aggregate-put : tie.Need-slice-aggregate-put
 slice-aggregate-put c = search needs
@@ -38,8 +37,8 @@ returns-2 c =
     let e = c .before .before .before .before .before .before .before .before .before .before .refusal-16 .ensures in
     let z = c .before .before .before .before .before .before .before .before .before .if1 .left in
     let a = c .before .before .before .before .before .before .before .telling .ensures in
-    let o = orElse-pass _ _ _ _ e z (a .number) in
-    (o, (answered-by _ _ _ _ e z _ (c .before .before .before .put .ensures) (a .answered), left-alone _ _ _ _ o (c .if2 .taken)))
+    let o = called _ _ _ _ _ e z _ _ (a .number) (c .before .before .before .put .ensures) (a .answered) in
+    (o .0, (o .1, left-alone _ _ _ _ (o .0) (c .if2 .taken)))
 
 slice-aggregate-put-2 : tie.Need-slice-aggregate-put-2
 slice-aggregate-put-2 c = search needs
@@ -60,10 +59,8 @@ returns-3 c =
     let e = c .before .before .before .before .before .before .before .before .before .before .before .before .before .before .before .before .refusal-16 .ensures in
     let z = c .before .before .before .before .before .before .before .before .before .before .before .before .before .before .before .if1 .left in
     let a = c .before .before .before .before .before .before .before .before .before .before .before .before .before .telling .ensures in
-    let o = orElse-pass _ _ _ _ e z (a .number) in
-    let p = c .before .before .before .before .before .before .before .before .before .put .ensures in
-    let q = c .before .before .put2 .ensures in
-    (o, (answered-by _ _ _ _ e z _ p (a .answered), answered-by _ _ _ _ o (c .before .before .before .before .before .before .if2 .left) _ q (a .moved)))
+    let o = called _ _ _ _ _ e z _ _ (a .number) (c .before .before .before .before .before .before .before .before .before .put .ensures) (a .answered) in
+    (o .0, (o .1, answered-by _ _ _ _ (o .0) (c .before .before .before .before .before .before .if2 .left) _ (c .before .before .put2 .ensures) (a .moved)))
 
 pub pelgrant-watch-tell-spec : {M : Type 1} → statement M
 pelgrant-watch-tell-spec =

@@ -1,5 +1,4 @@
 use mathlib.Core.Path.{sym, _∙_}
-use borrow.Author.Needs.{needs}
 use Rattle.refusals.proofs.RefusalLaws.{orElse-zero}
 use Rattle.card_watch.specs.Watching.{tellRefusal}
 use Rattle.card.proofs.CardLaws.{both}
@@ -8,13 +7,13 @@ use Rattle.card_watch.proofs.telling.Statement.{statement}
 use Rattle.card_watch.proofs.telling.Tie as tie
 
 refuse-requires : tie.Need-refuse-requires
-refuse-requires c κs = search needs
+refuse-requires c κs = tt
 
 watch-refusal-requires : tie.Need-watch-refusal-requires
-watch-refusal-requires c κs = search needs
+watch-refusal-requires c κs = tt
 
 or-else-requires : tie.Need-or-else-requires
-or-else-requires c κs = search needs
+or-else-requires c κs = tt
 
 returns : tie.Need-returns
 unfolding tellRefusal
@@ -28,13 +27,13 @@ watch-of-requires c κs =
     fits (c .before .before .before .before .before .args .kept .now) (sym (r .ensures) ∙ orElse-zero (c .before .before .before .refuse .result) (r .result) (sym (c .before .or-else .ensures) ∙ c .if1 .left) .1)
 
 event-numbered-requires : tie.Need-event-numbered-requires
-event-numbered-requires c κs = search needs
+event-numbered-requires c κs = tt
 
 tell-requires : tie.Need-tell-requires
-tell-requires c κs = search needs
+tell-requires c κs = tt
 
 tell-numbers-requires : tie.Need-tell-numbers-requires
-tell-numbers-requires c κs = search needs
+tell-numbers-requires c κs = tt
 
 returns-2 : tie.Need-returns-2
 unfolding tellRefusal

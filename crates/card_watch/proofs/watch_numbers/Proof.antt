@@ -13,10 +13,10 @@ cast-t6 : tie.Need-cast-t6
 cast-t6 c = search needs
 
 originating-number-requires : tie.Need-originating-number-requires
-originating-number-requires c κs = search needs
+originating-number-requires c κs = tt
 
 terminating-number-requires : tie.Need-terminating-number-requires
-terminating-number-requires c κs = search needs
+terminating-number-requires c κs = tt
 
 cast-t9 : tie.Need-cast-t9
 cast-t9 c = search needs

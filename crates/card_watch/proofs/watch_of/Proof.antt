@@ -1,5 +1,4 @@
 use native.Mathlib.Omega.{arith}
-use borrow.Author.Needs.{needs}
 use Rattle.card_watch.specs.Watching.{watchOf}
 use Rattle.card_watch.proofs.watch_of.Statement.{statement}
 use Rattle.card_watch.proofs.watch_of.Tie as tie
@@ -26,13 +25,13 @@ shared-slice-read-originating-numbered : tie.Need-shared-slice-read-originating-
 shared-slice-read-originating-numbered c = omega (arith, c .before .before .before .before .before .pre .nine)
 
 originating-numbered-requires : tie.Need-originating-numbered-requires
-originating-numbered-requires c κs = search needs
+originating-numbered-requires c κs = tt
 
 shared-slice-read-terminating-numbered : tie.Need-shared-slice-read-terminating-numbered
 shared-slice-read-terminating-numbered c = omega (arith, c .before .before .before .before .before .before .before .pre .nine)
 
 terminating-numbered-requires : tie.Need-terminating-numbered-requires
-terminating-numbered-requires c κs = search needs
+terminating-numbered-requires c κs = tt
 
 shared-slice-read-t18 : tie.Need-shared-slice-read-t18
 shared-slice-read-t18 c = omega (arith, c .before .before .before .before .before .before .before .before .before .pre .nine)

@@ -1,6 +1,5 @@
 use native.Mathlib.Omega.{arith}
 use borrow.Author.Tests.{eq-eqb, ne-eqb}
-use borrow.Author.Needs.{needs}
 use Rattle.card_watch.specs.Watching.{watchRefusal}
 use Rattle.card_watch.proofs.watch_refusal.Statement.{statement}
 use Rattle.card_watch.proofs.watch_refusal.Tie as tie
@@ -28,7 +27,7 @@ shared-slice-read-unfit-6 : tie.Need-shared-slice-read-unfit-6
 shared-slice-read-unfit-6 c = omega (arith, c .before .before .before .before .before .before .if1 .left)
 
 refuse-requires : tie.Need-refuse-requires
-refuse-requires c κs = search needs
+refuse-requires c κs = tt
 
 returns-2 : tie.Need-returns-2
 unfolding watchRefusal
