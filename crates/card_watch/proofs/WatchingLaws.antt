@@ -5,7 +5,7 @@ use mathlib.Core.List.{List, [], _∷_}
 use lib.ListN.{length}
 use borrow.Author.Tests.{ltb-false}
 use Rattle.octets.proofs.BoolLaws.{or-false}
-use Rattle.refusals.specs.Refusals.{ifTaken}
+use Rattle.refusals.specs.Refusals.{_orElse_, ifTaken}
 use Rattle.refusals.proofs.RefusalLaws.{orElse-zero, refuse-zero, if-refused, done-is}
 use Rattle.watch.specs.Watch.{freshWatch, only, eventAnswer}
 use Rattle.watch.specs.declared.Originating.{Originating}
@@ -16,7 +16,7 @@ use Rattle.watch.specs.declared.Event.{Event}
 use Rattle.watch.specs.declared.Watch.{Watch}
 use Rattle.watch.specs.declared.Watched.{Watched}
 use Rattle.card_watch.specs.Watching.{originatingNumber, terminatingNumber, originatingNumbered, terminatingNumbered, watchNumbers, watchOf, nineRefusal, watchRefusal, Fits, eventRefusal21, eventNumbered, tellNumbers, tellRefusal, keptTell, Tells}
-use Rattle.card.proofs.CardLaws.{sized}
+use Rattle.card.proofs.CardLaws.{sized, both}
 
 same-originating : (o : Originating) → originatingNumbered (originatingNumber o) ≡ o
 same-originating NORMAL = refl
@@ -52,6 +52,11 @@ fits kept z =
       keepalive-fits = ltb-false _ _ (keepalive .1);
       bits-fit = ltb-false _ _ (bits .1);
     }
+
+-- the event is judged, and then the numbers
+pub judged : (event : ℕ) (kept : List ℕ) {r a b : ℕ} → r ≡ a orElse b → a ≡ eventRefusal21 event → b ≡ watchRefusal kept → r ≡ tellRefusal event kept
+unfolding tellRefusal
+judged event kept e p q = both e p q
 
 none-refused : (q : ℕ) (a : Watched) (w : Watch) → ifTaken q a (only q w) .refusal ≡ 0 → q ≡ 0
 none-refused zero a w h = refl

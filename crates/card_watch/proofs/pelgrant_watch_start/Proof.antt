@@ -38,7 +38,7 @@ put-requires c κs =
     omega (arith, ap length w ∙ numbers-nine (c .before .before .before .before .before .before .before .start .result .after), sized 9 (length kept) (c .before .before .before .before .before .before .refuse .ensures) (z .0))
 
 same-length : tie.Need-same-length
-same-length c = search needs
+same-length c = c .before .before .put .kept .1 .0
 
 returns-2 : tie.Need-returns-2
 returns-2 c =

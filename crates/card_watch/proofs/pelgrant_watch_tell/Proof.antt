@@ -1,4 +1,4 @@
-use mathlib.Core.Path.{sym, _∙_}
+use mathlib.Core.Path.{refl, sym, _∙_}
 use native.Mathlib.Omega.{arith}
 use lib.ListN.{length}
 use borrow.Author.Needs.{needs}
@@ -27,10 +27,10 @@ put-requires : tie.Need-put-requires
 put-requires c κs = omega (arith, slice-aggregate-put (c .before), roomy {l = length (c .before .before .before .before .before .before .before .before .before .args .answer .now)} (c .before .before .before .before .before .before .refusal-16 .ensures) (c .before .before .before .before .before .if1 .left))
 
 same-length : tie.Need-same-length
-same-length c = search needs
+same-length c = refl
 
 same-length-2 : tie.Need-same-length-2
-same-length-2 c = search needs
+same-length-2 c = c .before .before .before .put .kept .1 .0
 
 returns-2 : tie.Need-returns-2
 returns-2 c =
@@ -49,10 +49,10 @@ put-requires-2 c κs =
     omega (arith, slice-aggregate-put-2 (c .before), done-fits (a .kept .now) (a .clock) (a .event) (a .bits) (a .flag) (sym (c .before .before .before .before .before .before .before .before .before .before .telling .ensures .number) ∙ c .before .before .before .if2 .left) .nine)
 
 same-length-3 : tie.Need-same-length-3
-same-length-3 c = search needs
+same-length-3 c = c .before .before .put2 .kept .1 .0
 
 same-length-4 : tie.Need-same-length-4
-same-length-4 c = search needs
+same-length-4 c = c .before .before .before .before .before .before .before .before .before .put .kept .1 .0
 
 returns-3 : tie.Need-returns-3
 returns-3 c =

@@ -1,8 +1,6 @@
 use mathlib.Core.Path.{sym, _∙_}
 use Rattle.refusals.proofs.RefusalLaws.{orElse-zero}
-use Rattle.card_watch.specs.Watching.{tellRefusal}
-use Rattle.card.proofs.CardLaws.{both}
-use Rattle.card_watch.proofs.WatchingLaws.{fits, no-watch, a-watch}
+use Rattle.card_watch.proofs.WatchingLaws.{fits, judged, no-watch, a-watch}
 use Rattle.card_watch.proofs.telling.Statement.{statement}
 use Rattle.card_watch.proofs.telling.Tie as tie
 
@@ -16,10 +14,9 @@ or-else-requires : tie.Need-or-else-requires
 or-else-requires c κs = tt
 
 returns : tie.Need-returns
-unfolding tellRefusal
 returns c =
     let a = c .before .before .before .before .before .args in
-    no-watch (a .kept .now) (a .clock) (a .event) (a .bits) (a .flag) _ (both (c .before .or-else .ensures) (c .before .before .before .refuse .ensures) (c .before .before .watch-refusal .ensures)) (c .if1 .taken)
+    no-watch (a .kept .now) (a .clock) (a .event) (a .bits) (a .flag) _ (judged (a .event) (a .kept .now) (c .before .or-else .ensures) (c .before .before .before .refuse .ensures) (c .before .before .watch-refusal .ensures)) (c .if1 .taken)
 
 watch-of-requires : tie.Need-watch-of-requires
 watch-of-requires c κs =
@@ -36,10 +33,9 @@ tell-numbers-requires : tie.Need-tell-numbers-requires
 tell-numbers-requires c κs = tt
 
 returns-2 : tie.Need-returns-2
-unfolding tellRefusal
 returns-2 c =
     let a = c .before .before .before .before .before .before .before .before .before .args in
-    a-watch (a .kept .now) (a .clock) (a .event) (a .bits) (a .flag) _ (both (c .before .before .before .before .before .or-else .ensures) (c .before .before .before .before .before .before .before .refuse .ensures) (c .before .before .before .before .before .before .watch-refusal .ensures)) (c .before .before .before .before .if1 .left)
+    a-watch (a .kept .now) (a .clock) (a .event) (a .bits) (a .flag) _ (judged (a .event) (a .kept .now) (c .before .before .before .before .before .or-else .ensures) (c .before .before .before .before .before .before .before .refuse .ensures) (c .before .before .before .before .before .before .watch-refusal .ensures)) (c .before .before .before .before .if1 .left)
     _ _ _ (c .before .before .before .watch-of .ensures) (c .before .before .event-numbered .ensures) (c .before .tell .ensures)
     _ _ _ (c .tell-numbers .ensures)
 

@@ -1,16 +1,16 @@
-use borrow.Author.Needs.{needs}
+use native.Mathlib.Omega.{arith}
 use Rattle.card_watch.specs.Watching.{watchNumbers}
 use Rattle.card_watch.proofs.watch_numbers.Statement.{statement}
 use Rattle.card_watch.proofs.watch_numbers.Tie as tie
 
 cast-t4 : tie.Need-cast-t4
-cast-t4 c = search needs
+cast-t4 c = omega arith
 
 cast-t5 : tie.Need-cast-t5
-cast-t5 c = search needs
+cast-t5 c = omega arith
 
 cast-t6 : tie.Need-cast-t6
-cast-t6 c = search needs
+cast-t6 c = omega arith
 
 originating-number-requires : tie.Need-originating-number-requires
 originating-number-requires c κs = tt
@@ -19,7 +19,7 @@ terminating-number-requires : tie.Need-terminating-number-requires
 terminating-number-requires c κs = tt
 
 cast-t9 : tie.Need-cast-t9
-cast-t9 c = search needs
+cast-t9 c = omega arith
 
 returns : tie.Need-returns
 unfolding watchNumbers
