@@ -16,7 +16,7 @@ use Rattle.endpoint.specs.declared.Arrival.{Arrival}
 use Rattle.endpoint.specs.declared.Arrived.{Arrived}
 use Rattle.endpoint.proofs.PlayLaws.{InRange, in-range, range-in}
 use Rattle.endpoint.proofs.ArrivalLaws.{arrival-kept}
-use Rattle.card.specs.Card.{arrivalNumbers, recordNumbers, recordOf, recordRefusal, refusedArrival, keptArrival, keptAfter, Arrives}
+use Rattle.card_endpoint.specs.Hearing.{arrivalNumbers, recordNumbers, recordOf, recordRefusal, refusedArrival, keptArrival, keptAfter, Arrives}
 
 abbrev pub narrowed : Endpoint → Endpoint
 narrowed e = record {

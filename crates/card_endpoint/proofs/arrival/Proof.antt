@@ -3,13 +3,13 @@ use lib.ListN.{length}
 use borrow.Author.Needs.{needs}
 use Rattle.endpoint.specs.declared.Endpoint.{Endpoint}
 use Rattle.endpoint.specs.Arrival.{arrivalOf}
-use Rattle.card.proofs.CardLaws.{six}
+use Rattle.card_endpoint.proofs.HearingLaws.{six}
 use Rattle.card_endpoint.proofs.KeptLaws.{narrowed-is, no-record, arrives}
 use Rattle.card_endpoint.proofs.arrival.Statement.{statement}
 use Rattle.card_endpoint.proofs.arrival.Tie as tie
 
 record-refusal-requires : tie.Need-record-refusal-requires
-record-refusal-requires c κs = search needs
+record-refusal-requires c κs = tt
 
 returns : tie.Need-returns
 returns c =
@@ -23,13 +23,13 @@ array-read-narrow : tie.Need-array-read-narrow
 array-read-narrow c = search needs
 
 narrow-requires : tie.Need-narrow-requires
-narrow-requires c κs = search needs
+narrow-requires c κs = tt
 
 array-read-narrow-2 : tie.Need-array-read-narrow-2
 array-read-narrow-2 c = search needs
 
 narrow-requires-2 : tie.Need-narrow-requires-2
-narrow-requires-2 c κs = search needs
+narrow-requires-2 c κs = tt
 
 array-read-t29 : tie.Need-array-read-t29
 array-read-t29 c = search needs
@@ -41,16 +41,16 @@ array-read-narrow-3 : tie.Need-array-read-narrow-3
 array-read-narrow-3 c = search needs
 
 narrow-requires-3 : tie.Need-narrow-requires-3
-narrow-requires-3 c κs = search needs
+narrow-requires-3 c κs = tt
 
 array-read-narrow-4 : tie.Need-array-read-narrow-4
 array-read-narrow-4 c = search needs
 
 narrow-requires-4 : tie.Need-narrow-requires-4
-narrow-requires-4 c κs = search needs
+narrow-requires-4 c κs = tt
 
 arrive-value-requires : tie.Need-arrive-value-requires
-arrive-value-requires c κs = search needs
+arrive-value-requires c κs = tt
 
 cast-t22 : tie.Need-cast-t22
 cast-t22 c = search needs
@@ -62,7 +62,7 @@ cast-t26 : tie.Need-cast-t26
 cast-t26 c = search needs
 
 record-after-requires : tie.Need-record-after-requires
-record-after-requires c κs = search needs
+record-after-requires c κs = tt
 
 returns-2 : tie.Need-returns-2
 returns-2 c =

@@ -5,12 +5,13 @@ use lib.ListN.{length}
 use borrow.Author.Needs.{needs}
 use Rattle.refusals.proofs.RefusalLaws.{orElse-take, orElse-pass}
 use Rattle.card.specs.Card.{put}
-use Rattle.card.proofs.CardLaws.{roomy-two, six-room, within, left-alone, answered}
+use Rattle.card.proofs.CardLaws.{roomy-two, within, left-alone, answered}
+use Rattle.card_endpoint.proofs.HearingLaws.{six-room}
 use Rattle.card_endpoint.proofs.pelgrant_arrive.Statement.{statement}
 use Rattle.card_endpoint.proofs.pelgrant_arrive.Tie as tie
 
 short-two-requires : tie.Need-short-two-requires
-short-two-requires c κs = search needs
+short-two-requires c κs = tt
 
 returns : tie.Need-returns
 returns c =
@@ -19,7 +20,7 @@ returns c =
     (orElse-take _ _ _ e t, (left-alone _ _ _ _ e t, (left-alone _ _ _ _ e t, left-alone _ _ _ _ (orElse-take _ _ _ e t) t)))
 
 arrival-requires : tie.Need-arrival-requires
-arrival-requires c κs = search needs
+arrival-requires c κs = tt
 
 slice-aggregate-put : tie.Need-slice-aggregate-put
 slice-aggregate-put c = search needs
@@ -34,7 +35,7 @@ copy-requires : tie.Need-copy-requires
 copy-requires c κs = within (slice-aggregate-copy (c .before)) (roomy-two (length (c .before .before .before .before .before .before .before .before .before .before .before .before .before .before .before .before .before .args .answer .now)) 4 (length (c .before .before .before .before .before .before .before .before .before .before .before .before .before .before .before .before .before .args .samples .now)) 128 (c .before .before .before .before .before .before .before .before .before .before .before .before .short-two .ensures) (c .before .before .before .before .before .before .before .before .before .before .before .if1 .left) .1)
 
 record-refusal-requires : tie.Need-record-refusal-requires
-record-refusal-requires c κs = search needs
+record-refusal-requires c κs = tt
 
 same-length : tie.Need-same-length
 same-length c = search needs

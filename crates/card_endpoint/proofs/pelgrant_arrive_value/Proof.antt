@@ -10,13 +10,13 @@ use Rattle.card_endpoint.proofs.pelgrant_arrive_value.Statement.{statem
 use Rattle.card_endpoint.proofs.pelgrant_arrive_value.Tie as tie
 
 short-two-requires : tie.Need-short-two-requires
-short-two-requires c κs = search needs
+short-two-requires c κs = tt
 
 refusal-16-requires : tie.Need-refusal-16-requires
-refusal-16-requires c κs = search needs
+refusal-16-requires c κs = tt
 
 or-else-requires : tie.Need-or-else-requires
-or-else-requires c κs = search needs
+or-else-requires c κs = tt
 
 returns : tie.Need-returns
 returns c =
@@ -25,7 +25,7 @@ returns c =
     (orElse-take _ _ _ e t, (left-alone _ _ _ _ e t, (left-alone _ _ _ _ e t, left-alone _ _ _ _ (orElse-take _ _ _ e t) t)))
 
 arrival-requires : tie.Need-arrival-requires
-arrival-requires c κs = search needs
+arrival-requires c κs = tt
 
 slice-aggregate-put : tie.Need-slice-aggregate-put
 slice-aggregate-put c = search needs
@@ -40,7 +40,7 @@ copy-requires : tie.Need-copy-requires
 copy-requires c κs = within (slice-aggregate-copy (c .before)) (roomy-two (length (c .before .before .before .before .before .before .before .before .before .before .before .before .before .before .before .before .before .before .before .args .answer .now)) 4 (length (c .before .before .before .before .before .before .before .before .before .before .before .before .before .before .before .before .before .before .before .args .samples .now)) 128 (c .before .before .before .before .before .before .before .before .before .before .before .before .before .short-two .ensures) ((orElse-zero (c .before .before .before .before .before .before .before .before .before .before .before .before .refusal-16 .result) (c .before .before .before .before .before .before .before .before .before .before .before .before .before .short-two .result) (sym (c .before .before .before .before .before .before .before .before .before .before .before .or-else .ensures) ∙ c .before .before .before .before .before .before .before .before .before .before .if1 .left)) .1) .1)
 
 record-refusal-requires : tie.Need-record-refusal-requires
-record-refusal-requires c κs = search needs
+record-refusal-requires c κs = tt
 
 same-length : tie.Need-same-length
 same-length c = search needs

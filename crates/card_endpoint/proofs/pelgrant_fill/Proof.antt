@@ -5,12 +5,13 @@ use native.Mathlib.Nat.{le-trans}
 use lib.ListN.{length}
 use borrow.Author.Needs.{needs}
 use Rattle.card.specs.Card.{put}
-use Rattle.card.proofs.CardLaws.{roomy-two, within, fill-fits, left-alone, answered}
+use Rattle.card.proofs.CardLaws.{roomy-two, within, left-alone, answered}
+use Rattle.card_endpoint.proofs.HearingLaws.{fill-fits}
 use Rattle.card_endpoint.proofs.pelgrant_fill.Statement.{statement}
 use Rattle.card_endpoint.proofs.pelgrant_fill.Tie as tie
 
 short-two-requires : tie.Need-short-two-requires
-short-two-requires c κs = search needs
+short-two-requires c κs = tt
 
 returns : tie.Need-returns
 returns c =
@@ -19,7 +20,7 @@ returns c =
     (e, (left-alone _ _ _ _ e t, left-alone _ _ _ _ e t))
 
 fill-requires : tie.Need-fill-requires
-fill-requires c κs = search needs
+fill-requires c κs = tt
 
 slice-aggregate-put : tie.Need-slice-aggregate-put
 slice-aggregate-put c = search needs

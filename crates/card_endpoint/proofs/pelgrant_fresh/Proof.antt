@@ -3,13 +3,15 @@ use mathlib.Core.List.{List}
 use mathlib.Core.Path.{sym, ap, _∙_}
 use lib.ListN.{length}
 use borrow.Author.Needs.{needs}
-use Rattle.card.specs.Card.{put, recordNumbers}
-use Rattle.card.proofs.CardLaws.{six-room, within, left-alone, answered}
+use Rattle.card.specs.Card.{put}
+use Rattle.card_endpoint.specs.Hearing.{recordNumbers}
+use Rattle.card.proofs.CardLaws.{within, left-alone, answered}
+use Rattle.card_endpoint.proofs.HearingLaws.{six-room}
 use Rattle.card_endpoint.proofs.pelgrant_fresh.Statement.{statement}
 use Rattle.card_endpoint.proofs.pelgrant_fresh.Tie as tie
 
 record-refusal-requires : tie.Need-record-refusal-requires
-record-refusal-requires c κs = search needs
+record-refusal-requires c κs = tt
 
 returns : tie.Need-returns
 returns c =
@@ -17,10 +19,10 @@ returns c =
     (e, left-alone _ _ _ _ e (c .if1 .taken))
 
 fresh-requires : tie.Need-fresh-requires
-fresh-requires c κs = search needs
+fresh-requires c κs = tt
 
 record-numbers-requires : tie.Need-record-numbers-requires
-record-numbers-requires c κs = search needs
+record-numbers-requires c κs = tt
 
 slice-aggregate-put : tie.Need-slice-aggregate-put
 slice-aggregate-put c = search needs

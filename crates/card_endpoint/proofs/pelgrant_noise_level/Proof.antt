@@ -12,7 +12,7 @@ use Rattle.card_endpoint.proofs.pelgrant_noise_level.Statement.{stateme
 use Rattle.card_endpoint.proofs.pelgrant_noise_level.Tie as tie
 
 short-two-requires : tie.Need-short-two-requires
-short-two-requires c κs = search needs
+short-two-requires c κs = tt
 
 returns : tie.Need-returns
 returns c =
@@ -21,13 +21,13 @@ returns c =
     (orElse-take _ _ _ e t, (left-alone _ _ _ _ e t, left-alone _ _ _ _ e t))
 
 noise-level-requires : tie.Need-noise-level-requires
-noise-level-requires c κs = search needs
+noise-level-requires c κs = tt
 
 noise-facts-requires : tie.Need-noise-facts-requires
-noise-facts-requires c κs = search needs
+noise-facts-requires c κs = tt
 
 flag-requires : tie.Need-flag-requires
-flag-requires c κs = search needs
+flag-requires c κs = tt
 
 slice-aggregate-put : tie.Need-slice-aggregate-put
 slice-aggregate-put c = search needs

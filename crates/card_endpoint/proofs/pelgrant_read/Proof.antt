@@ -3,13 +3,14 @@ use lib.ListN.{length}
 use borrow.Author.Needs.{needs}
 use Rattle.refusals.proofs.RefusalLaws.{orElse-take, orElse-pass}
 use Rattle.endpoint.specs.declared.Heard.{Heard}
-use Rattle.card.specs.Card.{put, heardNumbers}
+use Rattle.card.specs.Card.{put}
+use Rattle.card_endpoint.specs.Hearing.{heardNumbers}
 use Rattle.card.proofs.CardLaws.{roomy-two, within, left-alone, answered}
 use Rattle.card_endpoint.proofs.pelgrant_read.Statement.{statement}
 use Rattle.card_endpoint.proofs.pelgrant_read.Tie as tie
 
 short-two-requires : tie.Need-short-two-requires
-short-two-requires c κs = search needs
+short-two-requires c κs = tt
 
 returns : tie.Need-returns
 returns c =
@@ -18,7 +19,7 @@ returns c =
     (orElse-take _ _ _ e t, (left-alone _ _ _ _ e t, left-alone _ _ _ _ e t))
 
 read-requires : tie.Need-read-requires
-read-requires c κs = search needs
+read-requires c κs = tt
 
 cast-t11 : tie.Need-cast-t11
 cast-t11 c = search needs

@@ -2,13 +2,14 @@ use mathlib.Core.Path.{ap, _∙_}
 use borrow.Author.Needs.{needs}
 use Rattle.refusals.proofs.RefusalLaws.{orElse-take, orElse-pass}
 use Rattle.endpoint.specs.declared.SignalHeard.{SignalHeard}
-use Rattle.card.specs.Card.{put, signalNumbers}
+use Rattle.card.specs.Card.{put}
+use Rattle.card_endpoint.specs.Hearing.{signalNumbers}
 use Rattle.card.proofs.CardLaws.{roomy, left-alone, answered}
 use Rattle.card_endpoint.proofs.pelgrant_signal_read.Statement.{statement}
 use Rattle.card_endpoint.proofs.pelgrant_signal_read.Tie as tie
 
 refusal-16-requires : tie.Need-refusal-16-requires
-refusal-16-requires c κs = search needs
+refusal-16-requires c κs = tt
 
 returns : tie.Need-returns
 returns c =
@@ -17,7 +18,7 @@ returns c =
     (orElse-take _ _ _ e t, left-alone _ _ _ _ e t)
 
 signal-requires : tie.Need-signal-requires
-signal-requires c κs = search needs
+signal-requires c κs = tt
 
 cast-t9 : tie.Need-cast-t9
 cast-t9 c = search needs

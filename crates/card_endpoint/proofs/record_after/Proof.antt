@@ -1,8 +1,7 @@
 use mathlib.Core.Path.{sym, ap, _∙_}
 use mathlib.Core.Bool.{Bool, cond}
-use borrow.Author.Needs.{needs}
 use borrow.Author.Tests.{eq-eqb, ne-eqb}
-use Rattle.card.specs.Card.{recordNumbers}
+use Rattle.card_endpoint.specs.Hearing.{recordNumbers}
 use Rattle.card_endpoint.proofs.record_after.Statement.{statement}
 use Rattle.card_endpoint.proofs.record_after.Tie as tie
 
@@ -12,7 +11,7 @@ returns c =
     sym (ap (λ (t : Bool). cond t (a .came) (recordNumbers (a .moved))) (eq-eqb (a .refusal) 14 (c .if1 .taken)))
 
 record-numbers-requires : tie.Need-record-numbers-requires
-record-numbers-requires c κs = search needs
+record-numbers-requires c κs = tt
 
 returns-2 : tie.Need-returns-2
 returns-2 c =

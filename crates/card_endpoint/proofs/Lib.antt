@@ -1,0 +1,3 @@
+pub mod HearingLaws
+pub mod KeptLaws
+pub mod OneOutcome
