@@ -1,6 +1,5 @@
 use Prim.Native.Nat.{ℕ}
 use mathlib.Core.Path.{refl, ap}
-use borrow.Author.Needs.{needs}
 use Rattle.refusals.proofs.RefusalLaws.{refused-is, done-is}
 use Rattle.card_frames.specs.Frames.{stepAnswer, stepBuffer, stepSseq}
 use Rattle.card_frames.proofs.step_send.Statement.{statement}
@@ -23,7 +22,7 @@ send-requires : tie.Need-send-requires
 send-requires c κs = tt
 
 same-length : tie.Need-same-length
-same-length c = search needs
+same-length c = c .before .before .send .kept .1 .1 .1 .1 .1 .1 .1 .1 .1 .0
 
 returns-2 : tie.Need-returns-2
 unfolding stepAnswer stepBuffer stepSseq
