@@ -1,10 +1,8 @@
-use mathlib.Core.Path.{ap, _∙_}
-use borrow.Author.Needs.{needs}
-use Rattle.refusals.proofs.RefusalLaws.{orElse-take, orElse-pass}
+use mathlib.Core.Path.{refl, ap}
+use native.Mathlib.Omega.{arith}
 use Rattle.endpoint.specs.declared.SignalHeard.{SignalHeard}
-use Rattle.card.specs.Card.{put}
+use Rattle.card.proofs.CardLaws.{roomy, not-called, called}
 use Rattle.card_endpoint.specs.Hearing.{signalNumbers}
-use Rattle.card.proofs.CardLaws.{roomy, left-alone, answered}
 use Rattle.card_endpoint.proofs.pelgrant_signal_read.Statement.{statement}
 use Rattle.card_endpoint.proofs.pelgrant_signal_read.Tie as tie
 
@@ -12,39 +10,33 @@ refusal-16-requires : tie.Need-refusal-16-requires
 refusal-16-requires c κs = tt
 
 returns : tie.Need-returns
-returns c =
-    let e = c .before .refusal-16 .ensures in
-    let t = c .if1 .taken in
-    (orElse-take _ _ _ e t, left-alone _ _ _ _ e t)
+returns c = not-called _ _ _ _ _ (c .before .refusal-16 .ensures) (c .if1 .taken)
 
 signal-requires : tie.Need-signal-requires
 signal-requires c κs = tt
 
 cast-t9 : tie.Need-cast-t9
-cast-t9 c = search needs
+cast-t9 c = omega arith
 
 cast-t10 : tie.Need-cast-t10
-cast-t10 c = search needs
+cast-t10 c = omega arith
 
 cast-t11 : tie.Need-cast-t11
-cast-t11 c = search needs
+cast-t11 c = omega arith
 
 slice-aggregate-put : tie.Need-slice-aggregate-put
-slice-aggregate-put c = search needs
+slice-aggregate-put c = refl
 
 put-requires : tie.Need-put-requires
 put-requires c κs = roomy (c .before .before .before .before .before .before .before .refusal-16 .ensures) (c .before .before .before .before .before .before .if1 .left)
 
 same-length : tie.Need-same-length
-same-length c = search needs
+same-length c = c .before .before .put .kept .1 .0
 
 returns-2 : tie.Need-returns-2
 returns-2 c =
-    let e = c .before .before .before .before .before .before .before .before .before .before .refusal-16 .ensures in
-    let z = c .before .before .before .before .before .before .before .before .before .if1 .left in
     let a = c .before .before .before .before .before .before .before .before .signal .ensures in
-    let p = c .before .before .put .ensures in
-    (orElse-pass _ _ _ _ e z (ap (λ (r : SignalHeard). r .refusal) a), answered _ _ _ _ e z _ (p ∙ ap (λ (r : SignalHeard). put (signalNumbers r) (c .before .before .before .before .before .before .before .before .before .before .before .before .before .args .answer .now)) a))
+    called _ _ _ _ _ (c .before .before .before .before .before .before .before .before .before .before .refusal-16 .ensures) (c .before .before .before .before .before .before .before .before .before .if1 .left) _ _ (ap (λ (h : SignalHeard). h .refusal) a) (c .before .before .put .ensures) (ap signalNumbers a)
 
 pub pelgrant-signal-read-spec : {M : Type 1} → statement M
 pelgrant-signal-read-spec =
