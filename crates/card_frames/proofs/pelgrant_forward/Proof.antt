@@ -1,4 +1,6 @@
 use mathlib.Core.Path.{refl}
+use Rattle.onward.specs.Onward.{waitOf}
+use Rattle.node.specs.Node.{forwardAnswer, forwardBuffer}
 use Rattle.card.proofs.CardLaws.{roomy}
 use Rattle.card_frames.proofs.FramesLaws.{not-sent, sent}
 use Rattle.card_frames.proofs.pelgrant_forward.Statement.{statement}
@@ -27,8 +29,9 @@ same-length-2 c = c .before .before .put .kept .1 .0
 
 returns-2 : tie.Need-returns-2
 returns-2 c =
+    let s = c .before .before .before .before .before .before .before .before .before .before .before .before .before .before .args in
     let a = c .before .before .before .before .before .before .before .forward in
-    sent _ _ _ _ _ (c .before .before .before .before .before .before .before .before .before .before .refusal-16 .ensures) (c .before .before .before .before .before .before .before .before .before .if1 .left) _ _ _ (a .ensures .0) (c .before .before .put .ensures) (a .ensures .1)
+    sent _ (forwardAnswer (s .level) (waitOf (s .from) (s .to)) (s .address) (s .frame .now) (s .out .now)) (forwardBuffer (s .level) (waitOf (s .from) (s .to)) (s .address) (s .frame .now) (s .out .now)) _ _ (c .before .before .before .before .before .before .before .before .before .before .refusal-16 .ensures) (c .before .before .before .before .before .before .before .before .before .if1 .left) _ _ _ (a .ensures .0) (c .before .before .put .ensures) (a .ensures .1)
 
 pub pelgrant-forward-spec : {M : Type 1} → statement M
 pelgrant-forward-spec =

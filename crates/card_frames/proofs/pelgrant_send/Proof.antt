@@ -1,6 +1,8 @@
 use mathlib.Core.Path.{refl}
 use Rattle.refusals.proofs.RefusalLaws.{refused-is, done-is}
+use Rattle.onward.specs.Onward.{waitOf}
 use Rattle.card.proofs.CardLaws.{roomy}
+use Rattle.card_frames.specs.Frames.{stepAnswer, stepBuffer}
 use Rattle.card_frames.proofs.FramesLaws.{not-sent, sent}
 use Rattle.card_frames.proofs.pelgrant_send.Statement.{statement}
 use Rattle.card_frames.proofs.pelgrant_send.Tie as tie
@@ -34,7 +36,8 @@ returns-2 c =
     let e = c .before .before .before .before .before .before .before .before .before .before .before .refusal-16 .ensures in
     let z = c .before .before .before .before .before .before .before .before .before .before .if1 .left in
     let a = c .before .before .before .before .before .before .before .step-send .ensures in
-    let s = sent _ _ _ _ _ e z _ _ _ (a .0) (c .before .before .put .ensures) (a .1 .0) in
+    let f = c .before .before .before .before .before .before .before .before .before .before .before .before .before .before .before .args in
+    let s = sent _ (stepAnswer (f .sseq .now) (f .step) (f .coding) (f .noise) (f .samples .now) (f .level) (waitOf (f .from) (f .to)) (f .address) (f .out .now)) (stepBuffer (f .sseq .now) (f .step) (f .coding) (f .noise) (f .samples .now) (f .level) (waitOf (f .from) (f .to)) (f .address) (f .out .now)) _ _ e z _ _ _ (a .0) (c .before .before .put .ensures) (a .1 .0) in
     (s .0, (s .1 .0, (s .1 .1, done-is _ _ _ _ _ e z (a .1 .1))))
 
 pub pelgrant-send-spec : {M : Type 1} → statement M
