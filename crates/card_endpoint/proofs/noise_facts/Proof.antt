@@ -1,18 +1,17 @@
 use mathlib.Core.Path.{refl}
 use lib.Ieee.{round, ofBits}
-use borrow.Author.Needs.{needs}
 use Rattle.coding.specs.Noise.{paper}
 use Rattle.card_endpoint.proofs.noise_facts.Statement.{statement}
 use Rattle.card_endpoint.proofs.noise_facts.Tie as tie
 
 enum-told : tie.Need-enum-told
-enum-told c = search needs
+enum-told c = c .match .keys1
 
 enum-known-noise : tie.Need-enum-known-noise
-enum-known-noise c = search needs
+enum-known-noise c = c .match .keys2
 
 enum-known-noise-2 : tie.Need-enum-known-noise-2
-enum-known-noise-2 c = search needs
+enum-known-noise-2 c = c .match .keys3
 
 returns : tie.Need-returns
 unfolding paper round ofBits

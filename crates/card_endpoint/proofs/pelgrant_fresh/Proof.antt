@@ -31,7 +31,7 @@ put-requires : tie.Need-put-requires
 put-requires c κs = within (sym (ap length (c .before .before .record-numbers .ensures))) (six-room (length (c .before .before .before .before .before .before .before .args .kept .now)) (c .before .before .before .before .before .record-refusal .ensures) (c .before .before .before .before .if1 .left))
 
 same-length : tie.Need-same-length
-same-length c = search needs
+same-length c = c .before .before .put .kept .1 .0
 
 returns-2 : tie.Need-returns-2
 returns-2 c =

@@ -1,13 +1,13 @@
 use Prim.Native.Nat.{ℕ}
 use mathlib.Core.List.{[], _∷_}
-use mathlib.Core.Path.{_≡_, ap, _∙_}
+use mathlib.Core.Path.{_≡_, refl, ap, _∙_}
 use lib.ListN.{length, length-set}
 use lib.Ieee.{Float}
-use borrow.Author.Needs.{needs}
-use Rattle.refusals.proofs.RefusalLaws.{orElse-take, orElse-pass}
 use Rattle.coding.specs.Noise.{Paper, noiseOf}
-use Rattle.card.specs.Card.{put, flag}
-use Rattle.card.proofs.CardLaws.{roomy-two, left-alone, answered, stored}
+use Rattle.card.specs.Card.{flag}
+use Rattle.card.proofs.CardLaws.{roomy-two, stored}
+use Rattle.card_endpoint.specs.Hearing.{noiseNumbers}
+use Rattle.card_endpoint.proofs.HearingLaws.{not-filled, filled}
 use Rattle.card_endpoint.proofs.pelgrant_noise_level.Statement.{statement}
 use Rattle.card_endpoint.proofs.pelgrant_noise_level.Tie as tie
 
@@ -15,10 +15,7 @@ short-two-requires : tie.Need-short-two-requires
 short-two-requires c κs = tt
 
 returns : tie.Need-returns
-returns c =
-    let e = c .before .short-two .ensures in
-    let t = c .if1 .taken in
-    (orElse-take _ _ _ e t, (left-alone _ _ _ _ e t, left-alone _ _ _ _ e t))
+returns c = not-filled _ _ _ _ _ _ _ (c .before .short-two .ensures) (c .if1 .taken)
 
 noise-level-requires : tie.Need-noise-level-requires
 noise-level-requires c κs = tt
@@ -30,7 +27,7 @@ flag-requires : tie.Need-flag-requires
 flag-requires c κs = tt
 
 slice-aggregate-put : tie.Need-slice-aggregate-put
-slice-aggregate-put c = search needs
+slice-aggregate-put c = refl
 
 put-requires : tie.Need-put-requires
 put-requires c κs = roomy-two (length (c .before .before .before .before .before .before .before .before .before .args .answer .now)) 1 (length (c .before .before .before .before .before .before .before .before .before .args .level .now)) 1 (c .before .before .before .before .before .before .short-two .ensures) (c .before .before .before .before .before .if1 .left) .0
@@ -39,27 +36,22 @@ slice-write-level : tie.Need-slice-write-level
 slice-write-level c = roomy-two (length (c .before .before .before .before .before .before .before .before .before .before .before .before .args .answer .now)) 1 (length (c .before .before .before .before .before .before .before .before .before .before .before .before .args .level .now)) 1 (c .before .before .before .before .before .before .before .before .before .short-two .ensures) (c .before .before .before .before .before .before .before .before .if1 .left) .1
 
 same-length : tie.Need-same-length
-same-length c = search needs
+same-length c = c .before .before .put .kept .1 .0
 
 same-length-2 : tie.Need-same-length-2
 same-length-2 c = simp length-set
 
 returns-2 : tie.Need-returns-2
 returns-2 c =
+    let s = c .before .before .before .before .before .before .before .before .before .before .before .before .args in
     let e = c .before .before .before .before .before .before .before .before .before .short-two .ensures in
     let z = c .before .before .before .before .before .before .before .before .if1 .left in
     let w = c .before .before .before .before .before .before .before .noise-level .ensures in
     let n = c .before .before .before .before .before .before .noise-facts in
-    let i : n .result .idle ≡ noiseOf (c .before .before .before .before .before .before .before .before .before .before .before .before .args .code) .idle = n .ensures .1 ∙ ap (λ (r : Paper). r .idle) w in
-    let x : n .result .level ≡ noiseOf (c .before .before .before .before .before .before .before .before .before .before .before .before .args .code) .level = n .ensures .2 ∙ ap (λ (r : Paper). r .level) w in
-    let f = c .before .before .before .before .before .flag .ensures in
-    let p = c .before .before .put .ensures in (
-      orElse-pass _ _ _ _ e z (n .ensures .0 ∙ ap (λ (r : Paper). r .number) w),
-      (
-        answered _ _ _ _ e z _ (p ∙ ap (λ (k : ℕ). put (k ∷ []) (c .before .before .before .before .before .before .before .before .before .before .before .before .args .answer .now)) (f ∙ ap flag i)),
-        answered _ _ _ _ e z _ (stored (n .result .level) (c .before .before .before .before .before .before .before .before .before .before .before .before .args .level .now) (roomy-two (length (c .before .before .before .before .before .before .before .before .before .before .before .before .args .answer .now)) 1 (length (c .before .before .before .before .before .before .before .before .before .before .before .before .args .level .now)) 1 e z .1) ∙ ap (λ (y : Float). put (y ∷ []) (c .before .before .before .before .before .before .before .before .before .before .before .before .args .level .now)) x),
-      ),
-    )
+    let i : n .result .idle ≡ noiseOf (s .code) .idle = n .ensures .1 ∙ ap (λ (r : Paper). r .idle) w in
+    let room = roomy-two (length (s .answer .now)) 1 (length (s .level .now)) 1 e z .1 in
+    filled _ _ (noiseOf (s .code) .number) (noiseNumbers (noiseOf (s .code))) _ (noiseOf (s .code) .level ∷ []) _ e z _ _ _ (n .ensures .0 ∙ ap (λ (r : Paper). r .number) w) (c .before .before .put .ensures) (ap (λ (k : ℕ). k ∷ []) (c .before .before .before .before .before .flag .ensures ∙ ap flag i))
+    (stored (n .result .level) (s .level .now) room) (ap (λ (y : Float). y ∷ []) (n .ensures .2 ∙ ap (λ (r : Paper). r .level) w))
 
 pub pelgrant-noise-level-spec : {M : Type 1} → statement M
 pelgrant-noise-level-spec =
