@@ -48,9 +48,10 @@ returns-2 c =
     let z = c .before .before .before .before .before .before .before .before .if1 .left in
     let w = c .before .before .before .before .before .before .before .noise-level .ensures in
     let n = c .before .before .before .before .before .before .noise-facts in
-    let i : n .result .idle ≡ noiseOf (s .code) .idle = n .ensures .1 ∙ ap (λ (r : Paper). r .idle) w in
+    let right = noiseOf (s .code) in
+    let i : n .result .idle ≡ right .idle = n .ensures .1 ∙ ap (λ (r : Paper). r .idle) w in
     let room = roomy-two (length (s .answer .now)) 1 (length (s .level .now)) 1 e z .1 in
-    filled _ _ (noiseOf (s .code) .number) (noiseNumbers (noiseOf (s .code))) _ (noiseOf (s .code) .level ∷ []) _ e z _ _ _ (n .ensures .0 ∙ ap (λ (r : Paper). r .number) w) (c .before .before .put .ensures) (ap (λ (k : ℕ). k ∷ []) (c .before .before .before .before .before .flag .ensures ∙ ap flag i))
+    filled _ _ (right .number) (noiseNumbers right) _ (right .level ∷ []) _ e z _ _ _ (n .ensures .0 ∙ ap (λ (r : Paper). r .number) w) (c .before .before .put .ensures) (ap (λ (k : ℕ). k ∷ []) (c .before .before .before .before .before .flag .ensures ∙ ap flag i))
     (stored (n .result .level) (s .level .now) room) (ap (λ (y : Float). y ∷ []) (n .ensures .2 ∙ ap (λ (r : Paper). r .level) w))
 
 pub pelgrant-noise-level-spec : {M : Type 1} → statement M

@@ -45,9 +45,9 @@ same-length-2 c = c .before .before .copy .kept .1 .0
 
 returns-2 : tie.Need-returns-2
 returns-2 c =
-    let f = c .before .before .before .before .before .before .before .before .before .before .before .before .before .before .before .before .before .before .before .args .frame .now in
+    let right = readAnswer (c .before .before .before .before .before .before .before .before .before .before .before .before .before .before .before .before .before .before .before .args .frame .now) in
     let a = c .before .before .before .before .before .before .before .before .before .before .before .before .before .read .ensures in
-    filled _ _ (readAnswer f .refusal) (heardNumbers (readAnswer f)) _ (readAnswer f .samples) _ (c .before .before .before .before .before .before .before .before .before .before .before .before .before .before .before .short-two .ensures) (c .before .before .before .before .before .before .before .before .before .before .before .before .before .before .if1 .left) _ _ _ (ap (λ (r : Heard). r .refusal) a) (c .before .before .before .before .before .before .before .before .put .ensures) (ap heardNumbers a) (copied _ _ _ (c .before .before .copy .ensures)) (ap (λ (r : Heard). r .samples) a)
+    filled _ _ (right .refusal) (heardNumbers right) _ (right .samples) _ (c .before .before .before .before .before .before .before .before .before .before .before .before .before .before .before .short-two .ensures) (c .before .before .before .before .before .before .before .before .before .before .before .before .before .before .if1 .left) _ _ _ (ap (λ (r : Heard). r .refusal) a) (c .before .before .before .before .before .before .before .before .put .ensures) (ap heardNumbers a) (copied _ _ _ (c .before .before .copy .ensures)) (ap (λ (r : Heard). r .samples) a)
 
 pub pelgrant-read-spec : {M : Type 1} → statement M
 pelgrant-read-spec =

@@ -1,5 +1,6 @@
 use mathlib.Core.Path.{refl, ap}
 use native.Mathlib.Omega.{arith}
+use Rattle.endpoint.specs.Signal.{signalAnswer}
 use Rattle.endpoint.specs.declared.SignalHeard.{SignalHeard}
 use Rattle.card.proofs.CardLaws.{roomy, not-called, called}
 use Rattle.card_endpoint.specs.Hearing.{signalNumbers}
@@ -35,8 +36,10 @@ same-length c = c .before .before .put .kept .1 .0
 
 returns-2 : tie.Need-returns-2
 returns-2 c =
+    let s = c .before .before .before .before .before .before .before .before .before .before .before .before .before .args in
+    let right = signalAnswer (s .buildout) (s .frame .now) in
     let a = c .before .before .before .before .before .before .before .before .signal .ensures in
-    called _ _ _ _ _ (c .before .before .before .before .before .before .before .before .before .before .refusal-16 .ensures) (c .before .before .before .before .before .before .before .before .before .if1 .left) _ _ (ap (λ (h : SignalHeard). h .refusal) a) (c .before .before .put .ensures) (ap signalNumbers a)
+    called _ _ (right .refusal) (signalNumbers right) _ (c .before .before .before .before .before .before .before .before .before .before .refusal-16 .ensures) (c .before .before .before .before .before .before .before .before .before .if1 .left) _ _ (ap (λ (h : SignalHeard). h .refusal) a) (c .before .before .put .ensures) (ap signalNumbers a)
 
 pub pelgrant-signal-read-spec : {M : Type 1} → statement M
 pelgrant-signal-read-spec =

@@ -2,6 +2,7 @@ use Prim.Native.Nat.{ℕ}
 use mathlib.Core.Path.{refl, ap, _∙_}
 use mathlib.Core.List.{[], _∷_}
 use native.Mathlib.Omega.{arith}
+use Rattle.frame.specs.Calls.{takenAnswer}
 use Rattle.frame.specs.declared.TakenFacts.{TakenFacts}
 use Rattle.card.proofs.CardLaws.{roomy, not-called, called}
 use Rattle.card_frames.specs.Frames.{takenNumbers}
@@ -34,9 +35,10 @@ same-length c = c .before .before .put .kept .1 .0
 
 returns-2 : tie.Need-returns-2
 returns-2 c =
+    let right = takenAnswer (c .before .before .before .before .before .before .before .before .before .before .before .before .args .frame .now) in
     let a = c .before .before .before .before .before .before .before .taken in
     let v = ap (λ (k : ℕ). k ∷ a .result .length ∷ a .result .c ∷ []) (c .before .before .before .before .before .before .flag .ensures) in
-    called _ _ _ _ _ (c .before .before .before .before .before .before .before .before .before .refusal-16 .ensures) (c .before .before .before .before .before .before .before .before .if1 .left) _ _ (ap (λ (f : TakenFacts). f .refusal) (a .ensures)) (c .before .before .put .ensures) (v ∙ ap takenNumbers (a .ensures))
+    called _ _ (right .refusal) (takenNumbers right) _ (c .before .before .before .before .before .before .before .before .before .refusal-16 .ensures) (c .before .before .before .before .before .before .before .before .if1 .left) _ _ (ap (λ (f : TakenFacts). f .refusal) (a .ensures)) (c .before .before .put .ensures) (v ∙ ap takenNumbers (a .ensures))
 
 pub pelgrant-taken-spec : {M : Type 1} → statement M
 pelgrant-taken-spec =
