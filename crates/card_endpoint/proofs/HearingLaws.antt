@@ -31,6 +31,7 @@ pub copied : {A : Type 0} (values slot x : List A) → x ≡ values ++ drop (len
 unfolding put
 copied values slot x e = e
 
+-- a call that answers a number and fills two slices: refused by this form, and done
 module _ {A : Type 0} (flat r number : ℕ) (numbers slot : List ℕ) (seconds other : List A) (e : r ≡ flat) where
   pub not-filled : (r ≡ 0 → ⊥) → (r ≡ flat orElse number) × ((slot ≡ written flat numbers slot) × (other ≡ written flat seconds other))
   not-filled h =
