@@ -14,7 +14,7 @@ use Rattle.endpoint.specs.declared.Endpoint.{Endpoint}
 use Rattle.endpoint.specs.declared.Decision.{Decision}
 use Rattle.endpoint.specs.declared.Outcome.{Outcome}
 use Rattle.endpoint.specs.declared.Arrived.{Arrived}
-use Rattle.endpoint.specs.Play.{clockLimit, recordBad, refusal14, refusal18, dueAt, playRefusal, afterScheduled, stillStores, afterRefused, refusedWith, decision}
+use Rattle.endpoint.specs.Play.{clockLimit, recordBad, refusal14, refusal18, dueAt, playRefusal, afterScheduled, stillStores, afterRefused, decision}
 use Rattle.endpoint.specs.Read.{heardOf, readAnswer}
 use Rattle.endpoint.specs.Arrival.{resetOf, frameDecision, arrivalBy, arrivalOf}
 use Rattle.endpoint.specs.Outcome.{outcomeOf}
@@ -22,7 +22,7 @@ use Rattle.endpoint.specs.Calls.{isReceived}
 use Rattle.endpoint.proofs.PlayLaws.{first-stands, decided-with, decided-number, decided-scheduled, decided-ranged, decided-near, decided-ahead, decided-apart, decided-left, decided-last, decided-readable, still-stores, stores-nothing, refused-stores, refused-keeps}
 
 -- neither the number of the record nor that of the clock stores anything
-pub early-stores-nothing : (e : Endpoint) (clock : ℕ) → stillStores (refusal14 e orElse refusal18 e clock) ≡ false
+early-stores-nothing : (e : Endpoint) (clock : ℕ) → stillStores (refusal14 e orElse refusal18 e clock) ≡ false
 early-stores-nothing e clock = go (recordBad e) (ltb clock (e .lastclock) || ltb clockLimit clock) where
   go : (s t : Bool) → stillStores (refuse s 14 orElse refuse t 18) ≡ false
   go true t = refl
@@ -48,15 +48,15 @@ module _ (e : Endpoint) (f : List ℕ) (clock : ℕ) where
   unfolding frameDecision
   arrival-readable = decided-readable e clock (voiceRefusal f) (stamp f) (sequence f) (moreBit f) (noise f)
 
-  -- refused by the record or the clock
-  pub decided-early : (first : ℕ) (d : Decision) → first ≡ refusal14 e orElse refusal18 e clock → (first ≡ 0 → ⊥)
-      → ((more level : ℕ) → d ≡ refusedWith e first more level) → d ≡ frameDecision e f clock
+  -- refused by the record or the clock, which store nothing
+  pub decided-early : (first : ℕ) → first ≡ refusal14 e orElse refusal18 e clock → (first ≡ 0 → ⊥)
+      → _≡_ {A = Decision} (record { refusal = first; due = 0; after = e }) (frameDecision e f clock)
   unfolding frameDecision
-  decided-early first d p h q =
-      decided-with e clock (voiceRefusal f) (stamp f) (sequence f) (moreBit f) (noise f) first d
+  decided-early first p h =
+      decided-with e clock (voiceRefusal f) (stamp f) (sequence f) (moreBit f) (noise f) first (record { refusal = first; due = 0; after = e })
       (first-stands e clock (voiceRefusal f) (stamp f) (sequence f) first
       (orElse-take (refusal14 e orElse refusal18 e clock) (voiceRefusal f) first p h ∙ sym (orElse-assoc (refusal14 e) (refusal18 e clock) (voiceRefusal f))) h) h
-      (q (moreBit f) (noise f))
+      (sym (refused-keeps e first (moreBit f) (noise f) (ap stillStores p ∙ early-stores-nothing e clock)))
 
   pub outcome-is : (d : Decision) (s dropped reset : ℕ) → d ≡ frameDecision e f clock
       → (s ≡ heardOf (d .refusal) f .s) × (dropped ≡ heardOf (d .refusal) f .dropped) → reset ≡ resetOf (d .refusal) f

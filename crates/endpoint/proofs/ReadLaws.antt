@@ -66,13 +66,15 @@ told-taken n f s m c dropped z is-s is-m is-c is-dropped = (
   is-dropped ∙ ap₂ _-_ is-m is-c ∙ sym (ap (λ (r : Heard). r .dropped) (heard-taken n f z)),
 )
 
--- what is read step by step: S twice, M, C, the number dropped and the number present
-module _ (f : List ℕ) (s bits m c dropped present : ℕ) (is-s : s ≡ bitsOf f) (is-bits : bits ≡ s) (is-m : m ≡ fieldM f) (is-c : c ≡ fieldC f) (is-dropped : dropped ≡ m - c) (is-present : present ≡ bits - dropped) where
+-- what is read step by step: S and the number dropped as they are told, both wide, and the number present
+module _ (f : List ℕ) (s dropped bits lost present : ℕ) (told : (s ≡ heardOf 0 f .s) × (dropped ≡ heardOf 0 f .dropped)) (is-bits : bits ≡ s) (is-lost : lost ≡ dropped) (is-present : present ≡ bits - lost) where
   bits-is : bits ≡ bitsOf f
-  bits-is = is-bits ∙ is-s
+  unfolding heardOf
+  bits-is = is-bits ∙ told .0
 
   present-is : present ≡ bitsOf f - droppedOf f
-  present-is = is-present ∙ ap₂ _-_ bits-is (is-dropped ∙ ap₂ _-_ is-m is-c)
+  unfolding heardOf
+  present-is = is-present ∙ ap₂ _-_ bits-is (is-lost ∙ told .1)
 
   pub steps-there : voiceRefusal f ≡ 0 → (8 + 16 * present ≤ length f) × (present ≤ bits) × (bits ≤ 8)
   steps-there h = rw (present-is, bits-is) (blocks-there f h)

@@ -17,16 +17,15 @@ use octets::wide;
 use refusals::or_else;
 use refusals::refuse;
 ghost use mathlib.Core.Path.{_≡_};
-ghost use mathlib.Core.Bool.{false};
 ghost use mathlib.Core.List.{_++_};
-ghost use Prim.Native.Nat.{ℕ, _+_, _≤_};
+ghost use Prim.Native.Nat.{_+_, _≤_};
 ghost use lib.Dec.{ltb};
 ghost use lib.ListN.{length, drop, replicate};
 ghost use Rattle.frame.specs.Orders.{voiceRefusal};
 ghost use Rattle.endpoint.specs.Arrival.{frameDecision, resetOf, arrivalOf};
 ghost use Rattle.endpoint.specs.Outcome.{outcomeOf};
 ghost use Rattle.endpoint.specs.Fill.{fillOf};
-ghost use Rattle.endpoint.specs.Play.{freshRecord, clockLimit, buildoutBad, refusal14, refusal18, inTurn, hold, dueAt, stampLate, refusal17, rseqAfter, scheduledAt, stillStores, refusedWith, decision};
+ghost use Rattle.endpoint.specs.Play.{freshRecord, clockLimit, buildoutBad, refusal14, refusal18, inTurn, hold, dueAt, stampLate, refusal17, rseqAfter, scheduledAt, refusedWith, decision};
 ghost use Rattle.endpoint.specs.Read.{samplesOf, heardOf, readAnswer};
 ghost use Rattle.endpoint.specs.Signal.{signalOrder, signalAnswer};
 
@@ -230,9 +229,9 @@ fn blocks_into(frame: &[u8], samples: &mut [u8])
     requires { ⌜ (voiceRefusal (now frame) ≡ 0) × (128 ≤ length (now samples)) ⌝ }
     ensures { λ _. ⌜ now (samples .exit) ≡ samplesOf (now (frame .entry)) ++ drop 128 (now (samples .entry)) ⌝ }
 {
-    let bits = wide(coding_of(frame).sample_bits());
-    let dropped = less(field_m(frame), field_c(frame));
-    let present = less(bits, dropped);
+    let t = tell(0, frame);
+    let bits = wide(t.s);
+    let present = less(bits, wide(t.dropped));
     let heard = read_blocks(&*frame, bits, present);
     octets::copy(&heard, samples);
 }
@@ -300,25 +299,17 @@ fn reset_of(n: u8, frame: &[u8]) -> u8
     }
 }
 
-// A frame that is refused by the record or the clock stores nothing.
-fn left(e: Endpoint, n: u8) -> Decision
-    requires { ⌜ stillStores n ≡ false ⌝ }
-    ensures { λ r. ⌜ ((more noise : ℕ) → r ≡ refusedWith e n more noise) ⌝ }
-{
-    Decision {
-        refusal: n,
-        due: 0,
-        after: e,
-    }
-}
-
 // The record and the clock are judged before the frame is looked at.
 fn decide_frame(e: Endpoint, frame: &[u8], clock: u64) -> Decision
     ensures { λ r. ⌜ r ≡ frameDecision e (now (frame .entry)) clock ⌝ }
 {
     let first = or_else(refusal_14(e), refusal_18(e, clock));
     if first != 0 {
-        return left(e, first);
+        return Decision {
+            refusal: first,
+            due: 0,
+            after: e,
+        };
     }
     let given = voice_refusal(&*frame);
     decide(

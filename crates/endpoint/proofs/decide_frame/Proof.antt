@@ -1,8 +1,8 @@
 -- `endpoint::decide_frame` meets its contract.
-use mathlib.Core.Path.{_≡_, ap, ap₂, _∙_}
+use mathlib.Core.Path.{_≡_, ap₂, _∙_}
 use Rattle.refusals.specs.Refusals.{_orElse_}
-use Rattle.endpoint.specs.Play.{refusal14, refusal18, stillStores}
-use Rattle.endpoint.proofs.ArrivalLaws.{early-stores-nothing, decided-fields, decided-early}
+use Rattle.endpoint.specs.Play.{refusal14, refusal18}
+use Rattle.endpoint.proofs.ArrivalLaws.{decided-fields, decided-early}
 use Rattle.endpoint.proofs.decide_frame.Statement.{statement}
 use Rattle.endpoint.proofs.decide_frame.Tie as tie
 
@@ -18,16 +18,11 @@ refusal-18-requires c κs = tt
 or-else-requires : tie.Need-or-else-requires
 or-else-requires c κs = tt
 
-left-requires : tie.Need-left-requires
-left-requires c κs =
-    let a = c .before .before .before .before .before .args in
-    ap stillStores (first (c .before)) ∙ early-stores-nothing (a .e) (a .clock)
-
 returns : tie.Need-returns
 returns c =
-    let a = c .before .before .before .before .before .before .args in
-    let n = c .before .before in
-    decided-early (a .e) (a .frame .now) (a .clock) (n .or-else .result) (c .left .result) (first n) (c .before .if1 .taken) (c .left .ensures)
+    let a = c .before .before .before .before .before .args in
+    let n = c .before in
+    decided-early (a .e) (a .frame .now) (a .clock) (n .or-else .result) (first n) (c .if1 .taken)
 
 voice-refusal-requires : tie.Need-voice-refusal-requires
 voice-refusal-requires c κs = tt
@@ -64,7 +59,6 @@ decide-frame-spec =
     refusal-14-requires
     refusal-18-requires
     or-else-requires
-    left-requires
     returns
     voice-refusal-requires
     stamp-of-requires
