@@ -1,23 +1,15 @@
 -- What is known of slices that the endpoint's calls take, and what a call that fills two slices answers and leaves, refused or done.
 use Prim.Native.Nat.{ℕ, _≤_}
-use mathlib.Core.Path.{_≡_, sym, subst}
+use mathlib.Core.Path.{_≡_}
 use mathlib.Core.Bool.{Bool, true, false, cond, _||_}
 use mathlib.Core.List.{List, [], _++_}
-use native.Mathlib.Nat.{le-refl}
 use native.Mathlib.Omega.{arith}
 use lib.Dec.{ltb, eqb}
 use lib.ListN.{length, take, drop, length-take}
 use Rattle.refusals.specs.Refusals.{_orElse_}
 use Rattle.endpoint.specs.Fill.{fillOf}
 use Rattle.card.specs.Card.{put, written}
-use Rattle.card.proofs.CardLaws.{sized, left-alone, answered-by, not-called, called}
-use Rattle.card_endpoint.specs.Hearing.{recordRefusal}
-
-pub six : (n : ℕ) {r : ℕ} → r ≡ recordRefusal n → r ≡ 0 → n ≡ 6
-six n e z = sized 6 n e z
-
-pub six-room : (n : ℕ) {r : ℕ} → r ≡ recordRefusal n → r ≡ 0 → 6 ≤ n
-six-room n e z = subst (λ (k : ℕ). 6 ≤ k) (sym (six n e z)) (le-refl 6)
+use Rattle.card.proofs.CardLaws.{left-alone, answered-by, not-called, called}
 
 -- a fill fits where 128 do
 pub fill-fits : (last noise : List ℕ) (mlast : ℕ) → length (fillOf last noise mlast) ≤ 128

@@ -1,3 +1,2 @@
 pub mod HearingLaws
-pub mod KeptLaws
 pub mod OneOutcome

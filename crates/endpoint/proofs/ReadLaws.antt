@@ -8,7 +8,8 @@ use lib.Dec.{eqb}
 use lib.ListN.{length, drop, replicate, drop-of-length-le}
 use borrow.Author.Tests.{eq-eqb, ne-eqb}
 use Rattle.refusals.proofs.RefusalLaws.{if-refused}
-use Rattle.blocks.specs.Blocks.{samples}
+use Rattle.octets.proofs.TabLaws.{length-tab}
+use Rattle.blocks.specs.Blocks.{sample, samples}
 use Rattle.coding.specs.Coding.{resetBit, reserved}
 use Rattle.coding.proofs.CodingLaws.{s-le-8}
 use Rattle.frame.specs.Fields.{isVoice, fieldM, fieldC, coding, sequence}
@@ -44,7 +45,7 @@ heard-refused n f h =
     if-refused n (record { refusal = 0; s = bitsOf f; dropped = droppedOf f; samples = samplesOf f }) (record { refusal = n; s = 0; dropped = 0; samples = replicate 128 0 }) h
 
 -- a reader's answer, put together of its parts
-heard-number : (n : ℕ) (f : List ℕ) → n ≡ heardOf n f .refusal
+pub heard-number : (n : ℕ) (f : List ℕ) → n ≡ heardOf n f .refusal
 unfolding heardOf
 heard-number zero f = refl
 heard-number (suc n) f = refl
@@ -54,6 +55,12 @@ pub heard-of : (n : ℕ) (f : List ℕ) (s dropped : ℕ) (l : List ℕ) → (s 
 heard-of n f s dropped l p q =
     ap₂ (λ (x y : ℕ). record { refusal = n; s = x; dropped = y; samples = l }) (p .0) (p .1)
     ∙ ap₂ (λ (x : ℕ) (y : List ℕ). record { refusal = x; s = heardOf n f .s; dropped = heardOf n f .dropped; samples = y }) (heard-number n f) q
+
+-- always 128 samples
+pub heard-long : (n : ℕ) (f : List ℕ) → length (heardOf n f .samples) ≡ 128
+unfolding heardOf samplesOf samples
+heard-long zero f = length-tab (sample (drop 8 f) (bitsOf f) (bitsOf f - droppedOf f)) 128
+heard-long (suc n) f = refl
 
 -- what is told beside the samples
 pub told-refused : (n : ℕ) (f : List ℕ) → (n ≡ 0 → ⊥) → (0 ≡ heardOf n f .s) × (0 ≡ heardOf n f .dropped)

@@ -4,11 +4,11 @@ use mathlib.Core.Path.{sym, ap, _∙_}
 use lib.ListN.{length}
 use borrow.Author.Needs.{needs}
 use Rattle.card.specs.Card.{put}
-use Rattle.card_endpoint.specs.Hearing.{recordNumbers}
+use Rattle.card_arrival.specs.Kept.{recordNumbers}
 use Rattle.card.proofs.CardLaws.{within, left-alone, answered}
-use Rattle.card_endpoint.proofs.HearingLaws.{six-room}
-use Rattle.card_endpoint.proofs.pelgrant_fresh.Statement.{statement}
-use Rattle.card_endpoint.proofs.pelgrant_fresh.Tie as tie
+use Rattle.card_arrival.proofs.KeptLaws.{six-room}
+use Rattle.card_arrival.proofs.pelgrant_fresh.Statement.{statement}
+use Rattle.card_arrival.proofs.pelgrant_fresh.Tie as tie
 
 record-refusal-requires : tie.Need-record-refusal-requires
 record-refusal-requires c κs = tt

@@ -1,5 +1,5 @@
-use Rattle.card_endpoint.proofs.record_refusal.Statement.{statement}
-use Rattle.card_endpoint.proofs.record_refusal.Tie as tie
+use Rattle.card_arrival.proofs.record_refusal.Statement.{statement}
+use Rattle.card_arrival.proofs.record_refusal.Tie as tie
 
 refuse-requires : tie.Need-refuse-requires
 refuse-requires c κs = tt

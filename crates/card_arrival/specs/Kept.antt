@@ -1,0 +1,51 @@
+-- Document 01's calls on the endpoint's record as a host makes them, on numbers and on slices that it lends.
+use Prim.Native.Nat.{ℕ}
+use mathlib.Core.Bool.{not}
+use mathlib.Core.List.{List, [], _∷_}
+use lib.Dec.{eqb}
+use lib.ListN.{length, getD, replicate}
+use Rattle.refusals.specs.Refusals.{ifTaken, refuse}
+use Rattle.endpoint.specs.Arrival.{arrivalOf}
+use Rattle.endpoint.specs.declared.Endpoint.{Endpoint}
+use Rattle.endpoint.specs.declared.Arrival.{Arrival}
+
+-- the answer as numbers, in their order
+abbrev pub arrivalNumbers : Arrival → List ℕ
+arrivalNumbers a = a .due ∷ a .reset ∷ a .s ∷ a .dropped ∷ []
+
+-- the endpoint's record is six numbers: B, RSEQ, last clock, end, M_LAST, last noise
+abbrev pub recordNumbers : Endpoint → List ℕ
+recordNumbers e = e .buildout ∷ e .rseq ∷ e .lastclock ∷ e .end ∷ e .mlast ∷ e .lastnoise ∷ []
+
+abbrev pub recordOf : List ℕ → Endpoint
+recordOf kept = record {
+  buildout = getD kept 0 0;
+  rseq = getD kept 1 0;
+  lastclock = getD kept 2 0;
+  end = getD kept 3 0;
+  mlast = getD kept 4 0;
+  lastnoise = getD kept 5 0;
+}
+
+-- a record slice of another length
+abbrev pub recordRefusal : ℕ → ℕ
+recordRefusal n = refuse (not (eqb n 6)) 14
+
+-- a number, and zeros elsewhere
+abbrev pub refusedArrival : ℕ → Arrival
+refusedArrival n = record { refusal = n; due = 0; reset = 0; s = 0; dropped = 0; samples = replicate 128 0 }
+
+-- the arrival on a record of numbers
+unfoldable pub keptArrival : List ℕ → List ℕ → ℕ → Arrival
+keptArrival kept f clock =
+    ifTaken (recordRefusal (length kept))
+    (arrivalOf (recordOf kept) f clock .answer)
+    (refusedArrival (recordRefusal (length kept)))
+
+-- the record after it
+unfoldable pub keptAfter : List ℕ → List ℕ → ℕ → List ℕ
+keptAfter kept f clock = recordNumbers (arrivalOf (recordOf kept) f clock .after)
+
+-- a record of six numbers that come by themselves
+abbrev pub recordWith : ℕ → ℕ → ℕ → ℕ → ℕ → ℕ → Endpoint
+recordWith b q c e m n = record { buildout = b; rseq = q; lastclock = c; end = e; mlast = m; lastnoise = n }
