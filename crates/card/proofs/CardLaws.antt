@@ -2,10 +2,10 @@
 use Prim.Native.Nat.{ℕ, _≤_}
 use mathlib.Core.Path.{_≡_, refl, sym, ap, subst, _∙_}
 use mathlib.Core.Bool.{not}
-use mathlib.Core.List.{List, [], _∷_}
+use mathlib.Core.List.{List, [], _∷_, _++_}
 use native.Mathlib.Omega.{arith}
 use lib.Dec.{eqb}
-use lib.ListN.{length, set}
+use lib.ListN.{length, drop, set}
 use borrow.Author.Tests.{ltb-false, eqb-true, not-false}
 use Rattle.refusals.specs.Refusals.{_orElse_, refuse, refusal16}
 use Rattle.refusals.proofs.RefusalLaws.{orElse-zero, orElse-take, orElse-pass, refuse-zero, refused-is, done-is}
@@ -29,6 +29,11 @@ within {l = l} e h = subst (λ (x : ℕ). x ≤ l) e h
 -- an order whose parts are known
 pub both : {r a b x y : ℕ} → r ≡ a orElse b → a ≡ x → b ≡ y → r ≡ x orElse y
 both e p q = rw (← p, ← q) e
+
+-- values before what stood behind them, as `octets::copy` leaves them
+pub copied : {A : Type 0} (values slot x : List A) → x ≡ values ++ drop (length values) slot → x ≡ put values slot
+unfolding put
+copied values slot x e = e
 
 -- one value, stored
 pub stored : {A : Type 0} (x : A) (slot : List A) → 1 ≤ length slot → set slot 0 x ≡ put (x ∷ []) slot

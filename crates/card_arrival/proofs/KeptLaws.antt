@@ -20,9 +20,9 @@ use Rattle.endpoint.specs.declared.Outcome.{Outcome}
 use Rattle.endpoint.specs.declared.Arrival.{Arrival}
 use Rattle.endpoint.specs.declared.Arrived.{Arrived}
 use Rattle.endpoint.proofs.PlayLaws.{in-range}
-use Rattle.endpoint.proofs.ReadLaws.{heard-long}
+use Rattle.endpoint.proofs.ReadLaws.{heard-behind}
 use Rattle.card.specs.Card.{put, written}
-use Rattle.card.proofs.CardLaws.{sized, left-alone, answered}
+use Rattle.card.proofs.CardLaws.{sized, copied, left-alone, answered}
 use Rattle.card_arrival.specs.Kept.{arrivalNumbers, recordNumbers, recordOf, recordRefusal, refusedArrival, keptArrival, keptAfter}
 
 pub six : (n : ℕ) {r : ℕ} → r ≡ recordRefusal n → r ≡ 0 → n ≡ 6
@@ -63,9 +63,8 @@ module _ (e : Endpoint) where
 
 -- ---- what is heard, put before what stood behind
 
-pub put-heard : (n : ℕ) (f slot x : List ℕ) → x ≡ heardOf n f .samples ++ drop 128 slot → x ≡ put (heardOf n f .samples) slot
-unfolding put
-put-heard n f slot x e = e ∙ ap (λ (k : ℕ). heardOf n f .samples ++ drop k slot) (sym (heard-long n f))
+put-heard : (n : ℕ) (f slot x : List ℕ) → x ≡ heardOf n f .samples ++ drop 128 slot → x ≡ put (heardOf n f .samples) slot
+put-heard n f slot x e = copied (heardOf n f .samples) slot x (heard-behind n f slot x e)
 
 pub put-none : (f slot x : List ℕ) → x ≡ heardOf 14 f .samples ++ drop 128 slot → x ≡ put (refusedArrival 14 .samples) slot
 unfolding put heardOf

@@ -1,14 +1,18 @@
 -- What is known of slices that the endpoint's calls take, and what a call that fills two slices answers and leaves, refused or done.
 use Prim.Native.Nat.{ℕ, _≤_}
-use mathlib.Core.Path.{_≡_}
+use mathlib.Core.Path.{_≡_, ap, ap₂, _∙_}
 use mathlib.Core.Bool.{Bool, true, false, cond, _||_}
-use mathlib.Core.List.{List, [], _++_}
+use mathlib.Core.List.{List, [], _∷_}
 use native.Mathlib.Omega.{arith}
 use lib.Dec.{ltb, eqb}
-use lib.ListN.{length, take, drop, length-take}
+use lib.ListN.{length, take, length-take}
 use Rattle.refusals.specs.Refusals.{_orElse_}
+use Rattle.frame.specs.Orders.{voiceRefusal}
 use Rattle.endpoint.specs.Fill.{fillOf}
+use Rattle.endpoint.specs.Read.{heardOf, readAnswer}
+use Rattle.endpoint.proofs.ReadLaws.{heard-number}
 use Rattle.card.specs.Card.{put, written}
+use Rattle.card_endpoint.specs.Hearing.{heardNumbers}
 use Rattle.card.proofs.CardLaws.{left-alone, answered-by, not-called, called}
 
 -- a fill fits where 128 do
@@ -18,10 +22,19 @@ fill-fits last noise mlast = go (ltb (length last) 128 || ltb (length noise) 128
   go true = omega arith
   go false = rw length-take (omega arith)
 
--- what `octets::copy` leaves
-pub copied : {A : Type 0} (values slot x : List A) → x ≡ values ++ drop (length values) slot → x ≡ put values slot
-unfolding put
-copied values slot x e = e
+-- the reader's answer, of the frame's number and what is told of it
+module _ (n : ℕ) (f : List ℕ) (e : n ≡ voiceRefusal f) where
+  pub read-number : n ≡ readAnswer f .refusal
+  unfolding readAnswer
+  read-number = e ∙ heard-number (voiceRefusal f) f
+
+  pub read-numbers : (s dropped : ℕ) → (s ≡ heardOf n f .s) × (dropped ≡ heardOf n f .dropped) → s ∷ dropped ∷ [] ≡ heardNumbers (readAnswer f)
+  unfolding readAnswer
+  read-numbers s dropped p = ap₂ (λ (x y : ℕ). x ∷ y ∷ []) (p .0) (p .1) ∙ ap (λ (k : ℕ). heardNumbers (heardOf k f)) e
+
+  pub read-samples : heardOf n f .samples ≡ readAnswer f .samples
+  unfolding readAnswer
+  read-samples = ap (λ (k : ℕ). heardOf k f .samples) e
 
 -- a call that answers a number and fills two slices: refused by this form, and done
 module _ {A : Type 0} (flat r number : ℕ) (numbers slot : List ℕ) (seconds other : List A) (e : r ≡ flat) where

@@ -57,10 +57,14 @@ heard-of n f s dropped l p q =
     ∙ ap₂ (λ (x : ℕ) (y : List ℕ). record { refusal = x; s = heardOf n f .s; dropped = heardOf n f .dropped; samples = y }) (heard-number n f) q
 
 -- always 128 samples
-pub heard-long : (n : ℕ) (f : List ℕ) → length (heardOf n f .samples) ≡ 128
+heard-long : (n : ℕ) (f : List ℕ) → length (heardOf n f .samples) ≡ 128
 unfolding heardOf samplesOf samples
 heard-long zero f = length-tab (sample (drop 8 f) (bitsOf f) (bitsOf f - droppedOf f)) 128
 heard-long (suc n) f = refl
+
+-- so what is behind 128 is behind what is heard
+pub heard-behind : (n : ℕ) (f slot x : List ℕ) → x ≡ heardOf n f .samples ++ drop 128 slot → x ≡ heardOf n f .samples ++ drop (length (heardOf n f .samples)) slot
+heard-behind n f slot x e = e ∙ ap (λ (k : ℕ). heardOf n f .samples ++ drop k slot) (sym (heard-long n f))
 
 -- what is told beside the samples
 pub told-refused : (n : ℕ) (f : List ℕ) → (n ≡ 0 → ⊥) → (0 ≡ heardOf n f .s) × (0 ≡ heardOf n f .dropped)

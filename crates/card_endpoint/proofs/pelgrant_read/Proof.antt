@@ -1,12 +1,13 @@
-use mathlib.Core.Path.{refl, ap}
+-- `card_endpoint::pelgrant_read` meets its contract.
+use mathlib.Core.Path.{refl, sym, _∙_}
 use native.Mathlib.Omega.{arith}
 use lib.ListN.{length}
-use borrow.Author.Needs.{needs}
-use Rattle.endpoint.specs.Read.{readAnswer}
-use Rattle.endpoint.specs.declared.Heard.{Heard}
-use Rattle.card.proofs.CardLaws.{roomy-two, within}
+use Rattle.endpoint.specs.Read.{heardOf, readAnswer}
+use Rattle.endpoint.proofs.ReadLaws.{heard-behind}
+use Rattle.card.proofs.CardLaws.{roomy-two, copied}
 use Rattle.card_endpoint.specs.Hearing.{heardNumbers}
-use Rattle.card_endpoint.proofs.HearingLaws.{copied, not-filled, filled}
+use Rattle.card_endpoint.proofs.HearingLaws.{read-number, read-numbers, read-samples, not-filled, filled}
+use borrow.Author.Needs.{needs}
 use Rattle.card_endpoint.proofs.pelgrant_read.Statement.{statement}
 use Rattle.card_endpoint.proofs.pelgrant_read.Tie as tie
 
@@ -16,38 +17,45 @@ short-two-requires c κs = tt
 returns : tie.Need-returns
 returns c = not-filled _ _ _ _ _ _ _ (c .before .short-two .ensures) (c .if1 .taken)
 
-read-requires : tie.Need-read-requires
-read-requires c κs = tt
+voice-refusal-requires : tie.Need-voice-refusal-requires
+voice-refusal-requires c κs = tt
 
-cast-t11 : tie.Need-cast-t11
-cast-t11 c = omega arith
+tell-requires : tie.Need-tell-requires
+tell-requires c κs = tt
 
-cast-t12 : tie.Need-cast-t12
-cast-t12 c = omega arith
+cast-t13 : tie.Need-cast-t13
+cast-t13 c = omega arith
+
+cast-t14 : tie.Need-cast-t14
+cast-t14 c = omega arith
 
 slice-aggregate-put : tie.Need-slice-aggregate-put
 slice-aggregate-put c = refl
 
 put-requires : tie.Need-put-requires
-put-requires c κs = roomy-two (length (c .before .before .before .before .before .before .before .before .before .before .args .answer .now)) 2 (length (c .before .before .before .before .before .before .before .before .before .before .args .samples .now)) 128 (c .before .before .before .before .before .before .short-two .ensures) (c .before .before .before .before .before .if1 .left) .0
+put-requires c κs = roomy-two (length (c .before .before .before .before .before .before .before .before .before .before .before .args .answer .now)) 2 (length (c .before .before .before .before .before .before .before .before .before .before .before .args .samples .now)) 128 (c .before .before .before .before .before .before .before .short-two .ensures) (c .before .before .before .before .before .before .if1 .left) .0
 
-slice-aggregate-copy : tie.Need-slice-aggregate-copy
-slice-aggregate-copy c = search needs
-
-copy-requires : tie.Need-copy-requires
-copy-requires c κs = within (slice-aggregate-copy (c .before)) (roomy-two (length (c .before .before .before .before .before .before .before .before .before .before .before .before .before .before .before .before .args .answer .now)) 2 (length (c .before .before .before .before .before .before .before .before .before .before .before .before .before .before .before .before .args .samples .now)) 128 (c .before .before .before .before .before .before .before .before .before .before .before .before .short-two .ensures) (c .before .before .before .before .before .before .before .before .before .before .before .if1 .left) .1)
+hear-into-requires : tie.Need-hear-into-requires
+hear-into-requires c κs = (λ z. sym (c .before .before .before .before .before .before .before .before .before .voice-refusal .ensures) ∙ z, roomy-two (length (c .before .before .before .before .before .before .before .before .before .before .before .before .before .before .before .args .answer .now)) 2 (length (c .before .before .before .before .before .before .before .before .before .before .before .before .before .before .before .args .samples .now)) 128 (c .before .before .before .before .before .before .before .before .before .before .before .short-two .ensures) (c .before .before .before .before .before .before .before .before .before .before .if1 .left) .1)
 
 same-length : tie.Need-same-length
-same-length c = c .before .before .before .before .before .before .before .before .put .kept .1 .0
+same-length c = search needs
 
 same-length-2 : tie.Need-same-length-2
-same-length-2 c = c .before .before .copy .kept .1 .0
+same-length-2 c = search needs
 
 returns-2 : tie.Need-returns-2
 returns-2 c =
-    let right = readAnswer (c .before .before .before .before .before .before .before .before .before .before .before .before .before .before .before .before .before .before .before .args .frame .now) in
-    let a = c .before .before .before .before .before .before .before .before .before .before .before .before .before .read .ensures in
-    filled _ _ (right .refusal) (heardNumbers right) _ (right .samples) _ (c .before .before .before .before .before .before .before .before .before .before .before .before .before .before .before .short-two .ensures) (c .before .before .before .before .before .before .before .before .before .before .before .before .before .before .if1 .left) _ _ _ (ap (λ (r : Heard). r .refusal) a) (c .before .before .before .before .before .before .before .before .put .ensures) (ap heardNumbers a) (copied _ _ _ (c .before .before .copy .ensures)) (ap (λ (r : Heard). r .samples) a)
+    let h = c .before .before .hear-into in
+    let p = c .before .before .before .before .before .before .put in
+    let t = c .before .before .before .before .before .before .before .before .before .before .before .tell in
+    let v = c .before .before .before .before .before .before .before .before .before .before .before .before .voice-refusal in
+    let a = c .before .before .before .before .before .before .before .before .before .before .before .before .before .before .before .before .before .before .args in
+    let right = readAnswer (a .frame .now) in
+    filled _ _ (right .refusal) (heardNumbers right) _ (right .samples) _ (c .before .before .before .before .before .before .before .before .before .before .before .before .before .before .short-two .ensures) (c .before .before .before .before .before .before .before .before .before .before .before .before .before .if1 .left) _ _ _
+    (read-number (v .result) (a .frame .now) (v .ensures)) (p .ensures) (read-numbers (v .result) (a .frame .now) (v .ensures) (t .result .s) (t .result .dropped) (t .ensures))
+    (copied (heardOf (v .result) (a .frame .now) .samples) (a .samples .now) (h .last .1 .1 .0) (heard-behind (v .result) (a .frame .now) (a .samples .now) (h .last .1 .1 .0) (h .ensures)))
+    (read-samples (v .result) (a .frame .now) (v .ensures))
 
 pub pelgrant-read-spec : {M : Type 1} → statement M
 pelgrant-read-spec =
@@ -55,13 +63,13 @@ pelgrant-read-spec =
     (tie.spec
     short-two-requires
     returns
-    read-requires
-    cast-t11
-    cast-t12
+    voice-refusal-requires
+    tell-requires
+    cast-t13
+    cast-t14
     slice-aggregate-put
     put-requires
-    slice-aggregate-copy
-    copy-requires
+    hear-into-requires
     same-length
     same-length-2
     returns-2)
