@@ -88,15 +88,19 @@ pub extern "C" fn pelgrant_watch_start(
     ensures number { λ r. ⌜ r ≡ nineRefusal (length (now (kept .entry))) orElse startAnswer states refresh keepalive clock .refusal ⌝ }
     ensures kept { λ _. ⌜ now (kept .exit) ≡ written (nineRefusal (length (now (kept .entry))) orElse startAnswer states refresh keepalive clock .refusal) (watchNumbers (startAnswer states refresh keepalive clock .after)) (now (kept .entry)) ⌝ }
 {
+    let size = refuse(kept.len() != 9, 14);
+    if size != 0 {
+        return size;
+    }
     let a = watch::start(states, refresh, keepalive, clock);
-    let refusal = or_else(refuse(kept.len() != 9, 14), a.refusal);
-    if refusal != 0 {
-        return refusal;
+    let number = a.refusal;
+    if number != 0 {
+        return number;
     }
     let w = a.after;
     let numbers = watch_numbers(w);
     put(&numbers, kept);
-    refusal
+    number
 }
 
 // Judged before any number is cut to its field.
