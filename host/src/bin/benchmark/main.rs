@@ -25,6 +25,8 @@ const TYPE_21: u8 = 21;
 /// How often the Rust's time a call that is done may take, and one that is refused.
 const DONE_MARK: f64 = 1.0;
 const REFUSED_MARK: f64 = 1.25;
+/// How much longer than itself the same thing may seem to take.
+const NOISE: f64 = 1.05;
 
 /// The same work of the proved library and of the independent Rust.
 macro_rules! both {
@@ -163,12 +165,13 @@ struct RefusedRow {
     what: String,
     card: f64,
     rust: f64,
+    /// One check over its octets, by this call itself.
     check: f64,
 }
 
 impl RefusedRow {
     fn is_above(&self) -> bool {
-        ratio(self.card, self.rust) > REFUSED_MARK || self.card > self.check
+        ratio(self.card, self.rust) > REFUSED_MARK || self.card > self.check * NOISE
     }
 }
 
@@ -177,22 +180,29 @@ fn wrong_check(octets: usize) -> Vec<u8> {
     spoiled(changed(&signalling(), 7, 10, octets + 2))
 }
 
-/// Refused calls, each beside what one check over its frame's own octets costs the card: that is
-/// measured in turn with it, by a signalling frame of the same length whose check is wrong.
+/// One of as many octets as that frame, within what a frame may have.
+fn wrong_check_of(frame: &[u8]) -> Vec<u8> {
+    wrong_check(frame.len().clamp(SHORTEST, LONGEST) - 2)
+}
+
+/// Refused calls, each beside what one check over its frame's own octets costs the card: measured in
+/// turn with it, on a signalling frame of the same length whose check is wrong, by link and by the
+/// call itself.
 #[derive(Default)]
 struct Refused {
     rows: Vec<RefusedRow>,
 }
 
 impl Refused {
-    fn row(&mut self, number: u8, call: &str, frame: &str, octets: usize, [card, rust]: [Work; 2]) {
-        let check = link(Card, 4, &wrong_check(octets.clamp(SHORTEST, LONGEST) - 2));
-        let [card, rust, check] = best([card, rust, check]);
+    fn row(&mut self, number: u8, call: &str, what: &str, frame: &[u8], [card, rust]: [Work; 2], check: Work) {
+        let octets = frame.len();
+        let by_link = link(Card, 4, &wrong_check_of(frame));
+        let [card, rust, by_link, check] = best([card, rust, by_link, check]);
         println!(
-            "| {number} | {call} | {frame} | {octets} | {card:.1} | {rust:.1} | {:.2} | {check:.1} |",
+            "| {number} | {call} | {what} | {octets} | {card:.1} | {rust:.1} | {:.2} | {by_link:.1} | {check:.1} |",
             ratio(card, rust)
         );
-        self.rows.push(RefusedRow { what: format!("{call}, {number}, {frame}, {octets} octets"), card, rust, check });
+        self.rows.push(RefusedRow { what: format!("{call}, {number}, {what}, {octets} octets"), card, rust, check });
     }
 
     fn greatest(&self, measure: impl Fn(&RefusedRow) -> f64) -> &RefusedRow {
@@ -201,7 +211,7 @@ impl Refused {
 
     fn summary(&self) {
         let show = |title: &str, row: &RefusedRow| {
-            println!("- {title}: {}: {:.1} ns; one check over its octets {:.1} ns.", row.what, row.card, row.check);
+            println!("- {title}: {}: {:.1} ns; one check by this call {:.1} ns.", row.what, row.card, row.check);
         };
         show("Dearest", self.greatest(|row| row.card));
         show("Furthest above one check", self.greatest(|row| row.card - row.check));
@@ -229,24 +239,28 @@ impl Refused {
             (9, "signalling", changed(&signalling, 5, 201, signalling.len())),
             (9, "voice", changed(&voice, 5, 201, voice.len())),
         ];
+        let node_check = |frame: &[u8]| forward(Card, 4, &wrong_check_of(frame), HOP, LONGEST);
+        let endpoint_check = |frame: &[u8]| arrive(Card, 4, RECORD, &wrong_check_of(frame), 0, 0);
         println!(
-            "| No | Call | Frame | Octets | Card, ns | Rust, ns | Ratio | One check over its octets (8 to 488), ns |"
+            "| No | Call | Frame | Octets | Card, ns | Rust, ns | Ratio | One check, by link, ns | by this call, ns |"
         );
-        println!("|---:|---|---|---:|---:|---:|---:|---:|");
+        println!("|---:|---|---|---:|---:|---:|---:|---:|---:|");
         for (number, what, frame) in &frames {
-            self.row(*number, "forward", what, frame.len(), both!(forward, *number, frame, HOP, LONGEST));
+            let works = both!(forward, *number, frame, HOP, LONGEST);
+            self.row(*number, "forward", what, frame, works, node_check(frame));
         }
         for (number, what, hop, room) in [
             (10, "voice, level 4", Hop { level: 4, ..HOP }, LONGEST),
             (15, "voice, address 0", Hop { address: 0, ..HOP }, LONGEST),
             (16, "voice, no room", HOP, voice.len() - 1),
         ] {
-            self.row(number, "forward", what, voice.len(), both!(forward, number, &voice, hop, room));
+            self.row(number, "forward", what, &voice, both!(forward, number, &voice, hop, room), node_check(&voice));
         }
         for (number, what, frame) in &frames {
             // An endpoint of a voice call tells a signalling frame by its kind alone.
             let number = if *what == "signalling" && *number > 5 { 19 } else { *number };
-            self.row(number, "arrive", what, frame.len(), both!(arrive, number, RECORD, frame, 0, 0));
+            let works = both!(arrive, number, RECORD, frame, 0, 0);
+            self.row(number, "arrive", what, frame, works, endpoint_check(frame));
         }
         for (number, what, record, frame, clock) in [
             (14, "voice, B 200", [200, 0, 0, 0, 0, 0], &voice, 0),
@@ -254,7 +268,8 @@ impl Refused {
             (18, "voice, clock back", [100, 0, 1000, 0, 0, 0], &voice, 999),
             (20, "voice, too early", [100, 0, 1000, 1455, 0, 0], &voice, 1000),
         ] {
-            self.row(number, "arrive", what, frame.len(), both!(arrive, number, record, frame, clock, 0));
+            let works = both!(arrive, number, record, frame, clock, 0);
+            self.row(number, "arrive", what, frame, works, endpoint_check(frame));
         }
         let sound = Origin::data(TYPE_S8);
         let mut loud = Origin::data(TYPE_21);
@@ -269,7 +284,15 @@ impl Refused {
             (15, "address 0", Origin { hop: Hop { address: 0, ..HOP }, ..sound.clone() }),
             (16, "no room", Origin { room: 137, ..sound.clone() }),
         ] {
-            self.row(number, "send", what, voice.len(), both!(send, number, &origin));
+            // No frame comes, so the check is that of the frame which would have been written.
+            self.row(
+                number,
+                "send",
+                what,
+                &voice,
+                both!(send, number, &origin),
+                link(Card, 4, &wrong_check_of(&voice)),
+            );
         }
         println!();
         self.summary();
@@ -340,6 +363,12 @@ fn main() {
     let mut done = Done { yardstick, above: Vec::new() };
     done.table();
     println!("\n## Refused\n");
+    println!(
+        "One check over the frame's own octets, 8 to 488 of them, is the card's call on a signalling frame of as \
+         many octets whose check is wrong: by link, which judges nothing after it, and by the call of the row, \
+         which writes the zeros of its answer too. What may seem longer by noise: {:.0} parts in a hundred.\n",
+        100.0 * (NOISE - 1.0)
+    );
     let mut refused = Refused::default();
     refused.table();
     println!("\n## The check sequence\n");
@@ -355,7 +384,7 @@ fn main() {
         .rows
         .iter()
         .filter(|row| row.is_above())
-        .map(|row| format!("{}; one check {:.1} ns", above(&row.what, row.card, row.rust), row.check))
+        .map(|row| format!("{}; one check by this call {:.1} ns", above(&row.what, row.card, row.rust), row.check))
         .collect();
-    list(&format!("Refused, above {REFUSED_MARK:.2} times the Rust or above one check over its octets"), &above);
+    list(&format!("Refused, above {REFUSED_MARK:.2} times the Rust or above one check by the same call"), &above);
 }
