@@ -223,14 +223,16 @@ pub fn voice_refusal(frame: &[u8]) -> u8
         return first;
     }
     let reserved = refusal_6(frame);
-    let laid = layout_by(
+    if reserved != 0 {
+        return reserved;
+    }
+    layout_by(
         is_voice(frame),
         frame.len(),
         at(frame, 4),
         stamp_of(frame),
         coding_of(frame),
-    );
-    or_else(reserved, laid)
+    )
 }
 
 pub fn signal_refusal(frame: &[u8]) -> u8

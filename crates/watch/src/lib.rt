@@ -188,22 +188,22 @@ fn refresh_offered(refresh: u32) -> bool
     refresh == 20000
 }
 
-// The keep-alive is judged tenfold, since 1.5 is no whole number.
+// Twice the keep-alive is judged, since 1.5 times a refresh may be no whole number.
 fn keep_alive_offered(refresh: u32, keepalive: u32) -> bool
     ensures { λ r. ⌜ r ≡ keepAliveOffered refresh keepalive ⌝ }
 {
     let once = refresh as u64;
-    let tenfold = (keepalive as u64) * 10;
-    if tenfold == once * 15 {
+    let twice = (keepalive as u64) * 2;
+    if twice == once * 3 {
         return true;
     }
-    if tenfold == once * 25 {
+    if twice == once * 5 {
         return true;
     }
-    if tenfold == once * 35 {
+    if twice == once * 7 {
         return true;
     }
-    tenfold == once * 45
+    twice == once * 9
 }
 
 fn refusal_21(states: u8, refresh: u32, keepalive: u32) -> u8

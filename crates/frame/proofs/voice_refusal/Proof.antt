@@ -2,8 +2,9 @@
 use mathlib.Core.Path.{refl}
 use mathlib.Core.Bool.{true}
 use Rattle.refusals.specs.Refusals.{_orElse_}
+use Rattle.refusals.proofs.RefusalLaws.{orElse-take, orElse-pass}
 use Rattle.frame.specs.Orders.{refusal6, refusal19, layoutRefusal, voiceRefusal}
-use Rattle.frame.proofs.FrameLaws.{in-order, at-form, at-call, past-call}
+use Rattle.frame.proofs.FrameLaws.{at-form, at-call, past-call}
 use Rattle.frame.proofs.voice_refusal.Statement.{statement}
 use Rattle.frame.proofs.voice_refusal.Tie as tie
 
@@ -39,6 +40,18 @@ returns-2 c =
 refusal-6-requires : tie.Need-refusal-6-requires
 refusal-6-requires c κs = tt
 
+returns-3 : tie.Need-returns-3
+unfolding voiceRefusal
+returns-3 c =
+    let r6 = c .before .refusal-6 in
+    let o = c .before .before .before .or-else in
+    let r19 = c .before .before .before .before .refusal-19 in
+    let sum = c .before .before .before .before .before .sum-refusal in
+    let form = c .before .before .before .before .before .before .before .form-refusal in
+    let f = c .before .before .before .before .before .before .before .before .before .args .frame .now in
+    past-call f (form .result) (form .ensures) true (sum .result) (r19 .result) (o .result) (refusal6 f orElse layoutRefusal f) (r6 .result) (c .before .before .before .before .before .before .if1 .left) (sum .ensures) (r19 .ensures) (o .ensures) (c .before .before .if2 .left)
+    (orElse-take (refusal6 f) (layoutRefusal f) (r6 .result) (r6 .ensures) (c .if3 .taken))
+
 is-voice-requires : tie.Need-is-voice-requires
 is-voice-requires c κs = tt
 
@@ -54,25 +67,21 @@ coding-of-requires c κs = tt
 layout-by-requires : tie.Need-layout-by-requires
 layout-by-requires c κs = tt
 
-or-else-requires-2 : tie.Need-or-else-requires-2
-or-else-requires-2 c κs = tt
-
-returns-3 : tie.Need-returns-3
+returns-4 : tie.Need-returns-4
 unfolding voiceRefusal
-returns-3 c =
-    let laid = c .before .layout-by in
-    let t = c .before .before .coding-of in
-    let st = c .before .before .before .stamp-of in
-    let fifth = c .before .before .before .before .at in
-    let voice = c .before .before .before .before .before .is-voice in
+returns-4 c =
+    let t = c .before .coding-of in
+    let st = c .before .before .stamp-of in
+    let fifth = c .before .before .before .at in
+    let voice = c .before .before .before .before .is-voice in
     let r6 = c .before .before .before .before .before .before .refusal-6 in
     let o = c .before .before .before .before .before .before .before .before .or-else in
     let r19 = c .before .before .before .before .before .before .before .before .before .refusal-19 in
     let sum = c .before .before .before .before .before .before .before .before .before .before .sum-refusal in
     let form = c .before .before .before .before .before .before .before .before .before .before .before .before .form-refusal in
     let f = c .before .before .before .before .before .before .before .before .before .before .before .before .before .before .args .frame .now in
-    past-call f (form .result) (form .ensures) true (sum .result) (r19 .result) (o .result) (refusal6 f orElse layoutRefusal f) (c .or-else2 .result) (c .before .before .before .before .before .before .before .before .before .before .before .if1 .left) (sum .ensures) (r19 .ensures) (o .ensures) (c .before .before .before .before .before .before .before .if2 .left)
-    (in-order (refusal6 f) (layoutRefusal f) (r6 .result) (laid .result) (c .or-else2 .result) (r6 .ensures) (laid .ensures f (voice .ensures) refl (fifth .ensures .0) (st .ensures) (t .ensures)) (c .or-else2 .ensures))
+    past-call f (form .result) (form .ensures) true (sum .result) (r19 .result) (o .result) (refusal6 f orElse layoutRefusal f) (c .layout-by .result) (c .before .before .before .before .before .before .before .before .before .before .before .if1 .left) (sum .ensures) (r19 .ensures) (o .ensures) (c .before .before .before .before .before .before .before .if2 .left)
+    (orElse-pass (refusal6 f) (layoutRefusal f) (r6 .result) (c .layout-by .result) (r6 .ensures) (c .before .before .before .before .before .if3 .left) (c .layout-by .ensures f (voice .ensures) refl (fifth .ensures .0) (st .ensures) (t .ensures)))
 
 pub voice-refusal-spec : {M : Type 1} → statement M
-voice-refusal-spec = tie.close (tie.spec form-refusal-requires returns sum-refusal-requires refusal-19-requires or-else-requires returns-2 refusal-6-requires is-voice-requires at-requires stamp-of-requires coding-of-requires layout-by-requires or-else-requires-2 returns-3)
+voice-refusal-spec = tie.close (tie.spec form-refusal-requires returns sum-refusal-requires refusal-19-requires or-else-requires returns-2 refusal-6-requires returns-3 is-voice-requires at-requires stamp-of-requires coding-of-requires layout-by-requires returns-4)
