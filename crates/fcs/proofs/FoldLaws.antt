@@ -3,7 +3,7 @@ use Prim.Native.Nat.{ℕ, zero, suc, _+_, _*_, _/_, _%_, _^_, _<_, _≤_}
 use mathlib.Core.Path.{_≡_, refl, sym, ap, ap₂, _∙_}
 use mathlib.Core.List.{List, [], _∷_, _++_}
 use native.Mathlib.Nat.{mod-lt, le-refl, one-mul, zero-mul, zero-add, add-zero}
-use native.Mathlib.Numerals.{one-add, add-one}
+use native.Mathlib.Numerals.{one-add}
 use native.Mathlib.Omega.{arith}
 use lib.Bits.{bitXor, xor-shifted, xor-shr, xor-mod, xor-block, xor-comm}
 use lib.Pow.{split, pow-pos, shr-lt}
@@ -11,9 +11,9 @@ use lib.ListN.{length, getD, take, drop, take-append-drop}
 use lib.Seq.{drop-cons, drop-drop, take-add}
 use Rattle.octets.specs.Octets.{tab}
 use Rattle.octets.proofs.TabLaws.{agree}
-use Rattle.octets.proofs.XorLaws.{xor-half, xor-odd, xor-assoc}
+use Rattle.octets.proofs.XorLaws.{xor-odd, xor-assoc}
 use Rattle.fcs.specs.Fcs.{generator, fcsStep, fcsBits, fcsRun}
-use Rattle.fcs.proofs.ShiftLaws.{added, moved}
+use Rattle.fcs.proofs.ShiftLaws.{added, moved, entryOf, by-table}
 use Rattle.fcs.proofs.RunLaws.{run-append}
 use Rattle.fcs.proofs.ChangeLaws.{joined}
 
@@ -89,6 +89,29 @@ unfolding fcsBits
 zeros-linear zero = id
 zeros-linear (suc n) = comp (λ x. fcsBits n x 0) (λ x. fcsStep x 0) (zeros-linear n) step-linear
 
+-- ---- the octet
+
+-- no table: an entry as three shifts of one number
+unfoldable pub shifts : ℕ → ℕ
+shifts k = let x = bitXor k (k * 16) % 256 in bitXor (bitXor (x * 256) (x * 8)) (x / 16)
+
+shifts-linear : Linear shifts
+unfolding shifts
+shifts-linear =
+    let x : ℕ → ℕ = λ k. bitXor k (k * 2 ^ 4) % 2 ^ 8 in
+    let hx : Linear x = comp (λ z. z % 2 ^ 8) (λ k. bitXor k (k * 2 ^ 4)) (low 8) (sum (λ k. k) (λ k. k * 2 ^ 4) id (shl 4)) in
+    sum (λ k. bitXor (x k * 2 ^ 8) (x k * 2 ^ 3)) (λ k. x k / 2 ^ 4)
+    (sum (λ k. x k * 2 ^ 8) (λ k. x k * 2 ^ 3) (comp (λ z. z * 2 ^ 8) x (shl 8) hx) (comp (λ z. z * 2 ^ 3) x (shl 3) hx))
+    (comp (λ z. z / 2 ^ 4) x (shr 4) hx)
+
+entries : (k : ℕ) → k < 256 → shifts k ≡ entryOf k
+unfolding tab shifts entryOf fcsBits fcsStep
+entries k h =
+    same shifts (λ x. fcsBits 8 x 0) shifts-linear (zeros-linear 8) refl 8 (agree (λ i. shifts (2 ^ i)) (λ i. fcsBits 8 (2 ^ i) 0) 8 refl) k h
+
+pub by-shifts : (reg octet : ℕ) → octet < 256 → bitXor (reg / 256) (shifts (bitXor reg octet % 256)) ≡ fcsBits 8 reg octet
+by-shifts reg octet h = ap (bitXor (reg / 256)) (entries (bitXor reg octet % 256) (omega arith)) ∙ sym (by-table reg octet h)
+
 -- ---- the folds
 
 unfoldable pub fold : ℕ → ℕ → ℕ → ℕ → ℕ → ℕ → ℕ → ℕ
@@ -117,30 +140,51 @@ by-fold16 x h =
     same fold16 (λ x. fcsBits 16 x 0) (fold-linear 16 4 8 11 5 12) (zeros-linear 16) refl 16
     (agree (λ i. fold16 (2 ^ i)) (λ i. fcsBits 16 (2 ^ i) 0) 16 refl) x h
 
--- of n bits, one that n zero bits bring to where as many again bring the first
-pub by-fold : (n a b c d e : ℕ) → tab (λ i. fcsBits n (fold n a b c d e (2 ^ i)) 0) n ≡ tab (λ i. fcsBits n (fcsBits n (2 ^ i) 0) 0) n
-    → fcsBits n (fold n a b c d e 0) 0 ≡ fcsBits n (fcsBits n 0 0) 0
+-- sixteen zero bits, fed to a register of any size: what is above the sixteen low ones only moves down
+unfoldable zeros16 : ℕ → ℕ
+zeros16 x = bitXor (x / 65536) (fold16 (x % 65536))
+
+by-zeros16 : (x : ℕ) → fcsBits 16 x 0 ≡ zeros16 x
+unfolding zeros16
+by-zeros16 x =
+    let low = x % 65536 in
+    let whole : bitXor (x / 65536 * 65536) low ≡ x = xor-shifted (x / 65536) 16 low (mod-lt x (pow-pos 16)) ∙ split x 16 in
+    ap (λ (z : ℕ). fcsBits 16 z 0) (sym whole) ∙ moved 16 (x / 65536) low ∙ ap (bitXor (x / 65536)) (sym (by-fold16 low (mod-lt x (pow-pos 16))))
+
+sixteen-more : (n x : ℕ) → fcsBits (16 + n) x 0 ≡ fcsBits n (zeros16 x) 0
+sixteen-more n x = joined 16 n x 0 0 (pow-pos 16) ∙ ap (λ (z : ℕ). fcsBits n z 0) (by-zeros16 x)
+
+abbrev zeros32 : ℕ → ℕ
+zeros32 x = zeros16 (zeros16 x)
+
+by-zeros32 : (x : ℕ) → fcsBits 32 x 0 ≡ zeros32 x
+by-zeros32 x = sixteen-more 16 x ∙ by-zeros16 (zeros16 x)
+
+abbrev zeros64 : ℕ → ℕ
+zeros64 x = zeros32 (zeros32 x)
+
+by-zeros64 : (x : ℕ) → fcsBits 64 x 0 ≡ zeros64 x
+by-zeros64 x = sixteen-more 48 x ∙ sixteen-more 32 (zeros16 x) ∙ by-zeros32 (zeros32 x)
+
+-- of n bits, one that n zero bits bring to where as many again bring the first: tested with a quicker way to feed the zero bits
+pub by-fold : (n a b c d e : ℕ) (zeros : ℕ → ℕ) → ((x : ℕ) → fcsBits n x 0 ≡ zeros x)
+    → tab (λ i. zeros (fold n a b c d e (2 ^ i))) n ≡ tab (λ i. zeros (zeros (2 ^ i))) n → zeros (fold n a b c d e 0) ≡ zeros (zeros 0)
     → (x : ℕ) → x < 2 ^ n → fcsBits n (fold n a b c d e x) 0 ≡ fcsBits n (fcsBits n x 0) 0
-by-fold n a b c d e bits none x h =
-    same (λ x. fcsBits n (fold n a b c d e x) 0) (λ x. fcsBits n (fcsBits n x 0) 0)
-    (comp (λ x. fcsBits n x 0) (fold n a b c d e) (zeros-linear n) (fold-linear n a b c d e))
-    (comp (λ x. fcsBits n x 0) (λ x. fcsBits n x 0) (zeros-linear n) (zeros-linear n)) none n
-    (agree (λ i. fcsBits n (fold n a b c d e (2 ^ i)) 0) (λ i. fcsBits n (fcsBits n (2 ^ i) 0) 0) n bits) x h
+by-fold n a b c d e zeros is bits none x h =
+    let linear : Linear zeros = λ p q. sym (is (bitXor p q)) ∙ zeros-linear n p q ∙ ap₂ bitXor (is p) (is q) in
+    is (fold n a b c d e x)
+    ∙ same (λ x. zeros (fold n a b c d e x)) (λ x. zeros (zeros x))
+    (comp zeros (fold n a b c d e) linear (fold-linear n a b c d e)) (comp zeros zeros linear linear) none n
+    (agree (λ i. zeros (fold n a b c d e (2 ^ i))) (λ i. zeros (zeros (2 ^ i))) n bits) x h
+    ∙ sym (ap (λ (z : ℕ). fcsBits n z 0) (is x) ∙ is (zeros x))
 
 pub by-fold32 : (x : ℕ) → x < 4294967296 → fcsBits 32 (fold 32 8 16 22 10 24 x) 0 ≡ fcsBits 32 (fcsBits 32 x 0) 0
-unfolding fold fcsBits fcsStep tab
-by-fold32 x h = by-fold 32 8 16 22 10 24 refl refl x h
-
-bits64 : tab (λ i. fcsBits 64 (fold 64 16 32 44 20 48 (2 ^ i)) 0) 64 ≡ tab (λ i. fcsBits 64 (fcsBits 64 (2 ^ i) 0) 0) 64
-unfolding fold fcsBits fcsStep tab
-bits64 = refl
-
-none64 : fcsBits 64 (fold 64 16 32 44 20 48 0) 0 ≡ fcsBits 64 (fcsBits 64 0 0) 0
-unfolding fold fcsBits fcsStep
-none64 = refl
+unfolding fold zeros16 tab
+by-fold32 x h = by-fold 32 8 16 22 10 24 zeros32 by-zeros32 refl refl x h
 
 pub by-fold64 : (x : ℕ) → x < 18446744073709551616 → fcsBits 64 (fold 64 16 32 44 20 48 x) 0 ≡ fcsBits 64 (fcsBits 64 x 0) 0
-by-fold64 x h = by-fold 64 16 32 44 20 48 bits64 none64 x h
+unfolding fold zeros16 tab
+by-fold64 x h = by-fold 64 16 32 44 20 48 zeros64 by-zeros64 refl refl x h
 
 -- a register of twice n bits: the high half only moves down while n zero bits are fed, and f stands for what they make of the low one
 pub twice : (n x f : ℕ) {r : ℕ} → fcsBits n f 0 ≡ fcsBits n (fcsBits n (x % 2 ^ n) 0) 0 → r ≡ fcsBits n (bitXor (x / 2 ^ n) f) 0 → r ≡ fcsBits (n + n) x 0
