@@ -28,7 +28,7 @@ above-31 t h =
       ne-eqb t 24 (λ e. omega arith),
     )
 
-past : (low high t : ℕ) → 32 ≤ t → digitAt low high t ≡ 0
+pub past : (low high t : ℕ) → 32 ≤ t → digitAt low high t ≡ 0
 unfolding digitAt
 past low high t h = rw (lt-ltb 31 t (omega arith))
 

@@ -1,5 +1,5 @@
 use Prim.Native.Nat.{ℕ, _≤_}
-use mathlib.Core.Path.{_≡_, refl, ap}
+use mathlib.Core.Path.{_≡_, refl, sym, ap, _∙_}
 use native.Mathlib.Omega.{arith}
 use lib.ListN.{List·getD-eq-default}
 use lib.IntN.{pos}
@@ -9,7 +9,8 @@ use borrow.Author.Tests.{lt-ltb, le-ltb, ne-eqb}
 use Rattle.octets.specs.Octets.{tab}
 use Rattle.octets.proofs.TabLaws.{agree}
 use Rattle.coding.specs.Noise.{tenths, tenth, noiseOf, paper}
-use Rattle.coding.specs.declared.Noise.the-variants.{Level}
+use Rattle.coding.specs.declared.Noise.{Noise}
+use Rattle.coding.specs.declared.Noise.the-variants.{Idle, Level}
 use Rattle.coding.proofs.noise_level.Statement.{statement}
 use Rattle.coding.proofs.noise_level.Tie as tie
 
@@ -28,15 +29,19 @@ returns c =
     let above : 16 ≤ k = omega arith in
     simp (lt-ltb 15 k above, ne-eqb k 0 (λ e. omega arith), List·getD-eq-default)
 
-returns-2 : tie.Need-returns-2
+-- code 0
+idle-is : (code : ℕ) (r : Noise) → code ≡ 0 → r ≡ Idle → paper r ≡ noiseOf code
 unfolding paper noiseOf
-returns-2 c = rw (c .if2 .taken)
+idle-is code r z e = ap paper e ∙ sym (ap noiseOf z)
+
+returns-2 : tie.Need-returns-2
+returns-2 c = idle-is (c .before .before .args .code) _ (c .if2 .taken) refl
 
 mul-t : tie.Need-mul-t
-mul-t c = search needs
+mul-t c = omega arith
 
 array-read-t : tie.Need-array-read-t
-array-read-t c = search needs
+array-read-t c = omega arith
 
 int-to-float-t10 : tie.Need-int-to-float-t10
 int-to-float-t10 c = search needs

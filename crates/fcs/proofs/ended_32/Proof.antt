@@ -1,20 +1,20 @@
 -- `fcs::ended_32` meets its contract: sixteen bits twice.
-use mathlib.Core.Path.{sym, ap}
+use mathlib.Core.Path.{ap}
 use Prim.Native.Nat.{ℕ}
+use native.Mathlib.Omega.{arith}
 use Rattle.fcs.specs.Fcs.{fcsBits}
 use Rattle.fcs.proofs.FoldLaws.{twice}
-use borrow.Author.Needs.{needs}
 use Rattle.fcs.proofs.ended_32.Statement.{statement}
 use Rattle.fcs.proofs.ended_32.Tie as tie
 
 cast-sixteen : tie.Need-cast-sixteen
-cast-sixteen c = search needs
+cast-sixteen c = omega arith
 
 sixteen-requires : tie.Need-sixteen-requires
 sixteen-requires c κs = tt
 
 cast-sixteen-2 : tie.Need-cast-sixteen-2
-cast-sixteen-2 c = search needs
+cast-sixteen-2 c = omega arith
 
 sixteen-requires-2 : tie.Need-sixteen-requires-2
 sixteen-requires-2 c κs = tt

@@ -1,36 +1,35 @@
 -- `fcs::good` meets its contract.
 use native.Mathlib.Omega.{arith}
-use borrow.Author.Needs.{needs}
 use Rattle.fcs.proofs.SealLaws.{tested}
 use Rattle.fcs.proofs.good.Statement.{statement}
 use Rattle.fcs.proofs.good.Tie as tie
 
 less-requires : tie.Need-less-requires
-less-requires c κs = search needs
+less-requires c κs = tt
 
 at-requires : tie.Need-at-requires
-at-requires c κs = search needs
+at-requires c κs = tt
 
 less-requires-2 : tie.Need-less-requires-2
-less-requires-2 c κs = search needs
+less-requires-2 c κs = tt
 
 at-requires-2 : tie.Need-at-requires-2
-at-requires-2 c κs = search needs
+at-requires-2 c κs = tt
 
 lesser-requires : tie.Need-lesser-requires
-lesser-requires c κs = search needs
+lesser-requires c κs = tt
 
 first-requires : tie.Need-first-requires
 first-requires c κs = omega arith
 
 mul-result : tie.Need-mul-result
-mul-result c = search needs
+mul-result c = omega arith
 
 add-result : tie.Need-add-result
-add-result c = search needs
+add-result c = omega arith
 
 cast-result : tie.Need-cast-result
-cast-result c = search needs
+cast-result c = omega arith
 
 returns : tie.Need-returns
 returns c =

@@ -11,7 +11,7 @@ slice-aggregate-of-eight : tie.Need-slice-aggregate-of-eight
 slice-aggregate-of-eight c = search needs
 
 of-eight-requires : tie.Need-of-eight-requires
-of-eight-requires c κs = search needs
+of-eight-requires c κs = omega arith
 
 returns : tie.Need-returns
 returns c = c .of-eight .ensures ∙ ap fcsOf (take-all 8 _ (omega arith))

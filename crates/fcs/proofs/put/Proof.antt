@@ -7,16 +7,16 @@ use Rattle.fcs.proofs.put.Statement.{statement}
 use Rattle.fcs.proofs.put.Tie as tie
 
 cast-out : tie.Need-cast-out
-cast-out c = search needs
+cast-out c = omega arith
 
 slice-write-out : tie.Need-slice-write-out
-slice-write-out c = search needs
+slice-write-out c = omega arith
 
 cast-out-2 : tie.Need-cast-out-2
-cast-out-2 c = search needs
+cast-out-2 c = omega arith
 
 add-out : tie.Need-add-out
-add-out c = search needs
+add-out c = omega arith
 
 slice-write-out-2 : tie.Need-slice-write-out-2
 slice-write-out-2 c = simp length-set (omega arith)

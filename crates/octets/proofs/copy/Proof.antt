@@ -20,19 +20,19 @@ loop-holds : tie.Need-loop-holds Inv-loop μ-loop
 loop-holds c = (omega arith, refl, refl, refl)
 
 sub-loop : tie.Need-sub-loop Inv-loop μ-loop
-sub-loop c = search needs
+sub-loop c = omega arith
 
 add-copy-octets : tie.Need-add-copy-octets Inv-loop μ-loop
-add-copy-octets c = search needs
+add-copy-octets c = omega arith
 
 sub-copy-octets : tie.Need-sub-copy-octets Inv-loop μ-loop
-sub-copy-octets c = search needs
+sub-copy-octets c = omega arith
 
 part-copy-octets-start : tie.Need-part-copy-octets-start Inv-loop μ-loop
-part-copy-octets-start c = search needs
+part-copy-octets-start c = omega arith
 
 part-copy-octets-end : tie.Need-part-copy-octets-end Inv-loop μ-loop
-part-copy-octets-end c = search needs
+part-copy-octets-end c = omega arith
 
 slice-aggregate-copy-octets : tie.Need-slice-aggregate-copy-octets Inv-loop μ-loop
 slice-aggregate-copy-octets c = search needs
@@ -46,13 +46,13 @@ slice-aggregate-copy-octets-2 : tie.Need-slice-aggregate-copy-octets-2 Inv-loop 
 slice-aggregate-copy-octets-2 c = search needs
 
 sub-copy-octets-2 : tie.Need-sub-copy-octets-2 Inv-loop μ-loop
-sub-copy-octets-2 c = search needs
+sub-copy-octets-2 c = omega arith
 
 part-copy-octets-start-2 : tie.Need-part-copy-octets-start-2 Inv-loop μ-loop
-part-copy-octets-start-2 c = search needs
+part-copy-octets-start-2 c = omega arith
 
 part-copy-octets-end-2 : tie.Need-part-copy-octets-end-2 Inv-loop μ-loop
-part-copy-octets-end-2 c = search needs
+part-copy-octets-end-2 c = omega arith
 
 copy-octets-requires-2 : tie.Need-copy-octets-requires-2 Inv-loop μ-loop
 copy-octets-requires-2 c κs =
@@ -79,22 +79,22 @@ loop-again c =
     (omega arith, refl, ap length e ∙ copied-length s (a .out .now) (l .i + 16) (omega arith) (omega arith), e)
 
 sub-copy-octets-3 : tie.Need-sub-copy-octets-3 Inv-loop μ-loop
-sub-copy-octets-3 c = search needs
+sub-copy-octets-3 c = omega arith
 
 part-copy-octets-start-3 : tie.Need-part-copy-octets-start-3 Inv-loop μ-loop
-part-copy-octets-start-3 c = search needs
+part-copy-octets-start-3 c = omega arith
 
 part-copy-octets-end-3 : tie.Need-part-copy-octets-end-3 Inv-loop μ-loop
-part-copy-octets-end-3 c = search needs
+part-copy-octets-end-3 c = omega arith
 
 sub-copy-octets-4 : tie.Need-sub-copy-octets-4 Inv-loop μ-loop
-sub-copy-octets-4 c = search needs
+sub-copy-octets-4 c = omega arith
 
 part-copy-octets-start-4 : tie.Need-part-copy-octets-start-4 Inv-loop μ-loop
-part-copy-octets-start-4 c = search needs
+part-copy-octets-start-4 c = omega arith
 
 part-copy-octets-end-4 : tie.Need-part-copy-octets-end-4 Inv-loop μ-loop
-part-copy-octets-end-4 c = search needs
+part-copy-octets-end-4 c = omega arith
 
 copy-octets-requires-3 : tie.Need-copy-octets-requires-3 Inv-loop μ-loop
 copy-octets-requires-3 c κs =

@@ -2,7 +2,7 @@ use Prim.Native.Nat.{ℕ, _+_, _*_, _-_}
 use mathlib.Core.Path.{_≡_, ap, ap₂, _∙_}
 use mathlib.Core.Bool.{cond}
 use lib.Dec.{eqb}
-use borrow.Author.Needs.{needs}
+use native.Mathlib.Omega.{arith}
 use Rattle.coding.specs.Coding.{sampleBits, frameLength}
 use Rattle.coding.proofs.Coding.frame_length.Statement.{statement}
 use Rattle.coding.proofs.Coding.frame_length.Tie as tie
@@ -22,10 +22,10 @@ less-requires : tie.Need-less-requires
 less-requires c κs = tt
 
 mul-pick : tie.Need-mul-pick
-mul-pick c = search needs
+mul-pick c = omega arith
 
 add-pick : tie.Need-add-pick
-add-pick c = search needs
+add-pick c = omega arith
 
 pick-requires : tie.Need-pick-requires
 pick-requires c κs = tt
