@@ -1,6 +1,6 @@
 -- What is known of a call that a node does not refuse, both ways, and the frame as `send_on` puts it together.
 use Prim.Native.Nat.{ℕ, _+_, _-_, _*_, _/_, _%_, _^_, _≤_, _<_}
-use mathlib.Core.Path.{_≡_, refl, ap, ap₂, sym, _∙_}
+use mathlib.Core.Path.{_≡_, ap, ap₂, sym, _∙_}
 use mathlib.Core.Bool.{false}
 use mathlib.Core.List.{List, [], _∷_, _++_}
 use native.Mathlib.Omega.{arith}
@@ -8,14 +8,15 @@ use lib.ListN.{length, take, drop, length-append}
 use borrow.Author.Tests.{ltb-false, le-ltb}
 use borrow.Rule.Slice.PartMut.{putMid, midOf}
 use Rattle.octets.proofs.PartLaws.{grown}
-use Rattle.refusals.specs.Refusals.{_orElse_, refuse, addressBad, refusal10, refusal15, refusal16}
+use Rattle.refusals.specs.Refusals.{addressBad}
 use Rattle.refusals.proofs.RefusalLaws.{orElse-zero, refuse-zero, in-range}
 use Rattle.fcs.specs.Fcs.{fcsOf, fcsOctets}
 use Rattle.frame.specs.Orders.{takenRefusal}
 use Rattle.frame.proofs.FrameLaws.{passes}
 use Rattle.onward.specs.Onward.{dropped, onwardHead, onwardField, framed, onward}
 use Rattle.onward.proofs.OnwardLaws.{onward-length, field-length, kept, put-behind}
-use Rattle.node.specs.Node.{forwardRefusal, Sendable}
+use Rattle.onward.proofs.SentLaws.{answer-refused, buffer-refused, answer-done, buffer-done}
+use Rattle.node.specs.Node.{forwardRefusal, forwardAnswer, forwardBuffer, Sendable}
 
 pub record Forwarded (level wait addr : ℕ) (f : List ℕ) (room : ℕ) : Type 0 where
   pub low : level ≤ 3
@@ -41,13 +42,22 @@ module _ (level wait addr : ℕ) (f : List ℕ) (room : ℕ) where
   unfolding forwardRefusal
   not-refused t = simp (le-ltb _ _ (t .low), t .inside, t .legal, le-ltb _ _ (t .roomy))
 
--- the order, of numbers that were judged one by one
-pub forward-judged : (level wait addr : ℕ) (f : List ℕ) (room size r16 legal m r10 r15 l r : ℕ) → size ≡ length (onward level wait addr f) → r16 ≡ refusal16 room size
-    → legal ≡ takenRefusal f → m ≡ legal orElse r16 → r10 ≡ refusal10 level → r15 ≡ refusal15 addr → l ≡ r15 orElse m → r ≡ r10 orElse l
-    → r ≡ forwardRefusal level wait addr f room
-unfolding forwardRefusal
-forward-judged level wait addr f room size r16 legal m r10 r15 l r p q s t u v w e =
-    e ∙ ap₂ _orElse_ u (w ∙ ap₂ _orElse_ v (t ∙ ap₂ _orElse_ s (q ∙ ap (refusal16 room) p)))
+-- what the call answers and leaves, where it is refused and where its frame is written
+module _ (level wait addr : ℕ) (f out : List ℕ) (r : ℕ) (e : r ≡ forwardRefusal level wait addr f (length out)) where
+  pub forward-refused : (r ≡ 0 → ⊥) → (record { refusal = r; length = 0 } ≡ forwardAnswer level wait addr f out) × (out ≡ forwardBuffer level wait addr f out)
+  unfolding forwardAnswer forwardBuffer
+  forward-refused h = (
+    answer-refused (forwardRefusal level wait addr f (length out)) r (onward level wait addr f) e h,
+    buffer-refused (forwardRefusal level wait addr f (length out)) r (onward level wait addr f) e h out,
+  )
+
+  pub forward-done : (w size : ℕ) (x : List ℕ) → r ≡ 0 → w ≡ wait → size ≡ length (onward level wait addr f) → x ≡ onward level w addr f ++ drop size out
+      → (record { refusal = 0; length = size } ≡ forwardAnswer level wait addr f out) × (x ≡ forwardBuffer level wait addr f out)
+  unfolding forwardAnswer forwardBuffer
+  forward-done w size x z ew es ex = (
+    answer-done (forwardRefusal level wait addr f (length out)) r size (onward level wait addr f) e z es,
+    buffer-done (forwardRefusal level wait addr f (length out)) r size (onward level wait addr f) e z es out x (ex ∙ ap (λ (k : ℕ). onward level k addr f ++ drop size out) ew),
+  )
 
 pub sendable : (n level wait addr : ℕ) (f out : List ℕ) → forwardRefusal level wait addr f (length out) ≡ 0 → n ≡ length (onward level wait addr f)
     → wait < 2 ^ 32 → Sendable n level wait addr f out

@@ -39,6 +39,11 @@ unfolding framed fcsOctets
 framed-length h v = simp length-append (omega arith)
 
 module _ (l w a : ℕ) (f : List ℕ) where
+  -- it is the end that is cut
+  field-is : onwardField l f ≡ take (length f - 10 - 16 * dropped l f) (drop 8 f)
+  unfolding onwardField
+  field-is = refl
+
   pub field-length : length (onwardField l f) ≡ length f - 10 - 16 * dropped l f
   unfolding onwardField
   field-length = simp (length-take, length-drop) (omega arith)
@@ -64,7 +69,7 @@ module _ (l₁ w₁ a₁ l₂ w₂ a₂ : ℕ) (f : List ℕ) where
       cc
 
   field-two : onwardField l₂ (onward l₁ w₁ a₁ f) ≡ onwardField (l₁ + l₂) f
-  unfolding onward onwardHead onwardField framed
+  unfolding onward onwardHead framed
   field-two =
       let n₁ : ℕ = length f - 10 - 16 * dropped l₁ f in
       let n₂ : ℕ = length (onward l₁ w₁ a₁ f) - 10 - 16 * dropped l₂ (onward l₁ w₁ a₁ f) in
@@ -72,9 +77,12 @@ module _ (l₁ w₁ a₁ l₂ w₂ a₂ : ℕ) (f : List ℕ) where
       let e : n₂ ≡ n = omega (arith, onward-length l₁ w₁ a₁ f, dropped-two) in
       let le : n₂ ≤ length (onwardField l₁ f) = omega (arith, onward-length l₁ w₁ a₁ f, field-length l₁ w₁ a₁ f) in
       let le₁ : n₂ ≤ n₁ = omega (arith, onward-length l₁ w₁ a₁ f) in
-      take-append-le n₂ (onwardField l₁ f) (fcsOctets (onwardHead l₁ w₁ a₁ f)) le
+      field-is l₂ w₂ a₂ (onward l₁ w₁ a₁ f)
+      ∙ take-append-le n₂ (onwardField l₁ f) (fcsOctets (onwardHead l₁ w₁ a₁ f)) le
+      ∙ ap (take n₂) (field-is l₁ w₁ a₁ f)
       ∙ take-take n₂ n₁ (drop 8 f) le₁
       ∙ ap (λ (k : ℕ). take k (drop 8 f)) e
+      ∙ sym (field-is (l₁ + l₂) w₁ a₁ f)
 
   pub onward-two : onward l₂ w₂ a₂ (onward l₁ w₁ a₁ f) ≡ onward (l₁ + l₂) (w₁ + w₂) a₂ f
   unfolding onward framed

@@ -20,7 +20,7 @@ use Rattle.blocks.proofs.BlocksLaws.{length-field, field-prefix}
 use Rattle.frame.specs.Fields.{isVoice, fieldM, fieldC, stamp, moreBit, coding, sequence, noise}
 use Rattle.frame.proofs.FrameLaws.{Passes}
 use Rattle.onward.specs.Onward.{stampAfter, dropped, onwardHead, onwardField, framed, onward}
-use Rattle.onward.specs.Sent.{sentAnswer, sentBuffer}
+use Rattle.onward.proofs.SentLaws.{answer-refused, buffer-refused, answer-done, buffer-done}
 use Rattle.onward.proofs.OnwardLaws.{framed-length, framed-good, onward-length, onward-C, onward-M, closed, sealed-behind}
 use Rattle.origin.specs.declared.Step.{Step}
 use Rattle.origin.specs.Burst.{refusal13, refusal14, sequenceSent, moreSent, sseqSet, sseqAfter}
@@ -30,26 +30,6 @@ use Rattle.origin.specs.Send.{madeHead, made, sendWritten, sendRefusal, 
 -- the first of an order, each part by its definition
 pub orElse-is : {r a b x y : ℕ} → r ≡ a orElse b → a ≡ x → b ≡ y → r ≡ x orElse y
 orElse-is e p q = e ∙ ap₂ _orElse_ p q
-
--- what a call answers and leaves where it is refused
-module _ (q r : ℕ) (f : List ℕ) (e : r ≡ q) (h : r ≡ 0 → ⊥) where
-  pub answer-refused : record { refusal = r; length = 0 } ≡ sentAnswer q f
-  unfolding sentAnswer
-  answer-refused = refused-is q r _ _ _ e h (ap (λ (k : ℕ). record { refusal = k; length = 0 }) e)
-
-  pub buffer-refused : (out : List ℕ) → out ≡ sentBuffer q f out
-  unfolding sentBuffer
-  buffer-refused out = refused-is q r _ _ _ e h refl
-
--- and once its frame is written
-module _ (q r n : ℕ) (f : List ℕ) (e : r ≡ q) (z : r ≡ 0) (en : n ≡ length f) where
-  pub answer-done : record { refusal = 0; length = n } ≡ sentAnswer q f
-  unfolding sentAnswer
-  answer-done = done-is q r _ _ _ e z (ap (λ (k : ℕ). record { refusal = 0; length = k }) en)
-
-  pub buffer-done : (out x : List ℕ) → x ≡ f ++ drop n out → x ≡ sentBuffer q f out
-  unfolding sentBuffer
-  buffer-done out x ex = done-is q r _ _ _ e z (ex ∙ ap (λ (k : ℕ). f ++ drop k out) en)
 
 -- the blocks packed behind octets 1 to 8, and the rest as it came
 packed-in : (H O x xs : List ℕ) (S k : ℕ) → length H ≡ 8 → x ≡ H ++ drop 8 O → packed x xs S k ≡ H ++ field xs S k ++ drop (8 + 16 * k) O

@@ -15,9 +15,9 @@ use Rattle.frame.specs.Fields.{isVoice, stamp, moreBit, sequence, na, signalBit
 use Rattle.frame.specs.Orders.{signalRefusal as readerRefusal}
 use Rattle.frame.proofs.FrameLaws.{Passes, link-passed, layout-passed}
 use Rattle.onward.specs.Onward.{stampAfter, dropped, onwardHead, onwardField, framed, onward}
+use Rattle.onward.proofs.SentLaws.{answer-refused, buffer-refused, answer-done, buffer-done}
 use Rattle.onward.proofs.OnwardLaws.{framed-good, onward-length, closed, sealed-behind}
 use Rattle.origin.specs.Signal.{signalHead, signalWritten, signalRefusal, signalAnswer, signalBuffer}
-use Rattle.origin.proofs.SendLaws.{answer-refused, buffer-refused, answer-done, buffer-done}
 
 module _ (bits n wait addr : ℕ) where
   pub signal-length : length (signalWritten bits n wait addr) ≡ 10

@@ -1,12 +1,6 @@
-use Prim.Native.Nat.{ℕ}
-use mathlib.Core.Path.{refl, sym, ap, _∙_}
-use mathlib.Core.List.{_++_}
-use lib.ListN.{drop}
-use Rattle.refusals.proofs.RefusalLaws.{refused-is, done-is}
-use Rattle.onward.specs.Onward.{waitOf, onward}
-use Rattle.onward.specs.Sent.{sentAnswer, sentBuffer}
-use Rattle.node.specs.Node.{forwardAnswer, forwardBuffer}
-use Rattle.node.proofs.ForwardLaws.{sendable}
+use mathlib.Core.Path.{sym, _∙_}
+use Rattle.onward.specs.Onward.{waitOf}
+use Rattle.node.proofs.ForwardLaws.{forward-refused, forward-done, sendable}
 use borrow.Author.Needs.{needs}
 use Rattle.node.proofs.forward.Statement.{statement}
 use Rattle.node.proofs.forward.Tie as tie
@@ -15,12 +9,10 @@ forward-refusal-requires : tie.Need-forward-refusal-requires
 forward-refusal-requires c κs = tt
 
 returns : tie.Need-returns
-unfolding forwardAnswer forwardBuffer sentAnswer sentBuffer
 returns c =
     let a = c .before .before .before .before .args in
     let k = c .before .forward-refusal in
-    let e = k .ensures (waitOf (a .from) (a .to)) in
-    (refused-is _ (k .result) _ _ _ e (c .if1 .taken) (ap (λ (r : ℕ). record { refusal = r; length = 0 }) e), refused-is _ (k .result) _ _ _ e (c .if1 .taken) refl)
+    forward-refused (a .level) (waitOf (a .from) (a .to)) (a .address) (a .frame .now) (a .out .now) (k .result) (k .ensures (waitOf (a .from) (a .to))) (c .if1 .taken)
 
 wait-of-requires : tie.Need-wait-of-requires
 wait-of-requires c κs = tt
@@ -40,21 +32,14 @@ same-length : tie.Need-same-length
 same-length c = search needs
 
 returns-2 : tie.Need-returns-2
-unfolding forwardAnswer forwardBuffer sentAnswer sentBuffer
 returns-2 c =
-    let a = c .before .before .before .before .before .before .before .before .before .before .args in
-    let k = c .before .before .before .before .before .before .before .forward-refusal in
-    let z = c .before .before .before .before .before .before .if1 .left in
-    let w = c .before .before .before .before .before .wait-of in
-    let n = c .before .before .before .before .onward-length in
     let s = c .before .before .send-on in
-    let e = k .ensures (waitOf (a .from) (a .to)) in
-    let m = n .ensures (waitOf (a .from) (a .to)) (a .address) in
-    let f = a .frame .now in
-    let v = w .ensures .0 in
-    let sent = s .ensures ∙ ap (λ (t : ℕ). onward (a .level) t (a .address) f ++ drop (n .result) (a .out .now)) v
-    ∙ ap (λ (i : ℕ). onward (a .level) (waitOf (a .from) (a .to)) (a .address) f ++ drop i (a .out .now)) m in
-    (done-is _ (k .result) _ _ _ e z (ap (λ (i : ℕ). record { refusal = 0; length = i }) m), done-is _ (k .result) _ _ _ e z sent)
+    let n = c .before .before .before .before .onward-length in
+    let w = c .before .before .before .before .before .wait-of in
+    let i = c .before .before .before .before .before .before in
+    let k = i .before .forward-refusal in
+    let a = i .before .before .before .before .args in
+    forward-done (a .level) (waitOf (a .from) (a .to)) (a .address) (a .frame .now) (a .out .now) (k .result) (k .ensures (waitOf (a .from) (a .to))) (w .result) (n .result) (s .last .1 .1 .1 .1 .1 .0) (i .if1 .left) (w .ensures .0) (n .ensures (waitOf (a .from) (a .to)) (a .address)) (s .ensures)
 
 pub forward-spec : {M : Type 1} → statement M
 forward-spec =

@@ -45,7 +45,7 @@ sub-put : tie.Need-sub-put
 sub-put c = search needs
 
 put-requires : tie.Need-put-requires
-put-requires c κs = search needs
+put-requires c κs = omega arith
 
 same-length : tie.Need-same-length
 same-length c = search needs
