@@ -1,6 +1,6 @@
 -- `origin::send_refusal` meets its contract: 14, 13, 6 and 12 are judged before the samples are looked at.
 use Prim.Native.Nat.{ℕ, min}
-use mathlib.Core.Path.{_≡_, sym, ap, _∙_}
+use mathlib.Core.Path.{_≡_, sym, ap, ap₂, _∙_}
 use mathlib.Core.List.{List}
 use Rattle.refusals.specs.Refusals.{_orElse_, refusal10, refusal12, refusal15, refusal16}
 use Rattle.refusals.proofs.RefusalLaws.{orElse-take, orElse-pass, orElse-assoc}
@@ -30,6 +30,13 @@ module _ (sseq : ℕ) (step : Step) (t n : ℕ) (samples : List ℕ) (level wait
 
   passes : (r : ℕ) → cheap ≡ 0 → r ≡ after → r ≡ sendRefusal sseq step t n samples level wait addr room
   passes r z e = orElse-pass (refusal14 sseq orElse refusal13 step sseq orElse refusal6 t orElse refusal12 n 0) after cheap r is z e ∙ whole
+
+-- the last four of the order, of numbers that were judged one by one
+last-four : (t : ℕ) (samples : List ℕ) (level addr room r11 r10 r15 r16 m l r : ℕ) → r11 ≡ refusal11 samples (sampleBits t) → r10 ≡ refusal10 level → r15 ≡ refusal15 addr
+    → r16 ≡ refusal16 room (frameLength t (min (droppableBits t) level)) → m ≡ r15 orElse r16 → l ≡ r10 orElse m → r ≡ r11 orElse l
+    → r ≡ refusal11 samples (sampleBits t) orElse refusal10 level orElse refusal15 addr orElse refusal16 room (frameLength t (min (droppableBits t) level))
+last-four t samples level addr room r11 r10 r15 r16 m l r p11 p10 p15 p16 em el er =
+    er ∙ ap₂ _orElse_ p11 (el ∙ ap₂ _orElse_ p10 (em ∙ ap₂ _orElse_ p15 p16))
 
 refusal-14-requires : tie.Need-refusal-14-requires
 refusal-14-requires c κs = tt
@@ -99,12 +106,17 @@ returns-2 c =
     let a = c .before .before .before .before .before .before .before .before .before .before .before .before .before .before .before .before .before .before .before .before .args in
     let s = c .before .before .before .before .before .before .before .before .before .wide .ensures .0 ∙ c .before .before .before .before .before .before .before .before .before .before .sample-bits .ensures in
     let n = c .before .before .before .before .frame-length .ensures ∙ ap (frameLength (a .coding)) (c .before .before .before .before .before .dropped-of .ensures) in
-    let r16 = c .before .before .before .refusal-16 .ensures ∙ ap (refusal16 (a .room)) n in
+    let k11 = c .before .before .before .before .before .before .before .before .refusal-11 in
+    let k10 = c .before .before .before .before .before .before .before .refusal-10 in
+    let k15 = c .before .before .before .before .before .before .refusal-15 in
+    let k16 = c .before .before .before .refusal-16 in
+    let m = c .before .before .or-else4 in
+    let l = c .before .or-else5 in
     passes (a .sseq) (a .step) (a .coding) (a .noise) (a .samples .now) (a .level) wait (a .address) (a .room) (c .before .before .before .before .before .before .before .before .before .before .before .before .or-else3 .result)
     (orElse-is (c .before .before .before .before .before .before .before .before .before .before .before .before .or-else3 .ensures) (c .before .before .before .before .before .before .before .before .before .before .before .before .before .before .before .before .before .before .refusal-14 .ensures)
     (orElse-is (c .before .before .before .before .before .before .before .before .before .before .before .before .before .or-else2 .ensures) (c .before .before .before .before .before .before .before .before .before .before .before .before .before .before .before .before .before .refusal-13 .ensures) (orElse-is (c .before .before .before .before .before .before .before .before .before .before .before .before .before .before .or-else .ensures) (c .before .before .before .before .before .before .before .before .before .before .before .before .before .before .before .before .refusal-6 .ensures) (c .before .before .before .before .before .before .before .before .before .before .before .before .before .before .before .refusal-12 .ensures)))) (c .or-else6 .result) (c .before .before .before .before .before .before .before .before .before .before .before .if1 .left)
-    (orElse-is (c .or-else6 .ensures) (c .before .before .before .before .before .before .before .before .refusal-11 .ensures ∙ ap (refusal11 (a .samples .now)) s)
-    (orElse-is (c .before .or-else5 .ensures) (c .before .before .before .before .before .before .before .refusal-10 .ensures) (orElse-is (c .before .before .or-else4 .ensures) (c .before .before .before .before .before .before .refusal-15 .ensures) r16)))
+    (last-four (a .coding) (a .samples .now) (a .level) (a .address) (a .room) (k11 .result) (k10 .result) (k15 .result) (k16 .result) (m .result) (l .result) (c .or-else6 .result)
+    (k11 .ensures ∙ ap (refusal11 (a .samples .now)) s) (k10 .ensures) (k15 .ensures) (k16 .ensures ∙ ap (refusal16 (a .room)) n) (m .ensures) (l .ensures) (c .or-else6 .ensures))
 
 pub send-refusal-spec : {M : Type 1} → statement M
 send-refusal-spec =
