@@ -13,13 +13,13 @@ use Rattle.refusals.specs.Refusals.{_orElse_, refuse}
 use Rattle.refusals.proofs.RefusalLaws.{orElse-take, orElse-pass, if-refused, if-taken}
 use Rattle.endpoint.specs.Arrival.{frameDecision, resetOf, arrivalBy, arrivalOf}
 use Rattle.endpoint.specs.Outcome.{outcomeOf}
-use Rattle.endpoint.specs.Play.{recordBad, refusal14, playRefusal, decision}
+use Rattle.playout.specs.Play.{recordBad, refusal14, playRefusal, decision}
 use Rattle.endpoint.specs.Read.{heardOf}
-use Rattle.endpoint.specs.declared.Endpoint.{Endpoint}
+use Rattle.playout.specs.declared.Endpoint.{Endpoint}
 use Rattle.endpoint.specs.declared.Outcome.{Outcome}
 use Rattle.endpoint.specs.declared.Arrival.{Arrival}
 use Rattle.endpoint.specs.declared.Arrived.{Arrived}
-use Rattle.endpoint.proofs.PlayLaws.{in-range}
+use Rattle.playout.proofs.PlayLaws.{in-range}
 use Rattle.endpoint.proofs.ReadLaws.{heard-behind}
 use Rattle.card.specs.Card.{put, written}
 use Rattle.card.proofs.CardLaws.{sized, copied, left-alone, answered}

@@ -3,7 +3,7 @@ use Prim.Native.Nat.{ℕ}
 use mathlib.Core.List.{List}
 use lib.ListN.{length}
 use Rattle.refusals.specs.Refusals.{_orElse_}
-use Rattle.endpoint.specs.Play.{freshRecord}
+use Rattle.playout.specs.Play.{freshRecord}
 use Rattle.card.specs.Card.{written}
 use Rattle.card.proofs.OneOutcome.{One, one, Answers, answers}
 use Rattle.card_arrival.specs.Kept.{arrivalNumbers, recordNumbers, recordRefusal, keptArrival, keptAfter}

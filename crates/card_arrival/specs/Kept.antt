@@ -6,7 +6,7 @@ use lib.Dec.{eqb}
 use lib.ListN.{length, getD, replicate}
 use Rattle.refusals.specs.Refusals.{ifTaken, refuse}
 use Rattle.endpoint.specs.Arrival.{arrivalOf}
-use Rattle.endpoint.specs.declared.Endpoint.{Endpoint}
+use Rattle.playout.specs.declared.Endpoint.{Endpoint}
 use Rattle.endpoint.specs.declared.Arrival.{Arrival}
 
 -- the answer as numbers, in their order

@@ -1,25 +1,26 @@
 -- An arrival is the decision on the frame's fields: the laws of the decision, over the octets.
-use Prim.Native.Nat.{ℕ, _+_, _≤_}
+use Prim.Native.Nat.{ℕ, suc, _+_, _≤_}
 use mathlib.Core.Path.{_≡_, refl, sym, ap, ap₂, _∙_}
 use mathlib.Core.Bool.{Bool, true, false, cond, _||_}
 use lib.Dec.{ltb}
 use mathlib.Core.List.{List}
 use mathlib.Core.Logic.{_⊎_, ⊎-elim}
 use native.Mathlib.Omega.{arith}
+use borrow.Author.Tests.{ne-eqb}
 use Rattle.frame.specs.Fields.{stamp, moreBit, sequence, noise}
 use Rattle.refusals.specs.Refusals.{_orElse_, refuse}
 use Rattle.refusals.proofs.RefusalLaws.{orElse-take, orElse-assoc}
 use Rattle.frame.specs.Orders.{voiceRefusal}
-use Rattle.endpoint.specs.declared.Endpoint.{Endpoint}
-use Rattle.endpoint.specs.declared.Decision.{Decision}
+use Rattle.playout.specs.declared.Endpoint.{Endpoint}
+use Rattle.playout.specs.declared.Decision.{Decision}
 use Rattle.endpoint.specs.declared.Outcome.{Outcome}
 use Rattle.endpoint.specs.declared.Arrived.{Arrived}
-use Rattle.endpoint.specs.Play.{clockLimit, recordBad, refusal14, refusal18, dueAt, playRefusal, afterScheduled, stillStores, afterRefused, decision}
+use Rattle.playout.specs.Play.{clockLimit, recordBad, refusal14, refusal18, dueAt, playRefusal, afterScheduled, stillStores, afterRefused, decision}
 use Rattle.endpoint.specs.Read.{heardOf, readAnswer}
 use Rattle.endpoint.specs.Arrival.{resetOf, frameDecision, arrivalBy, arrivalOf}
 use Rattle.endpoint.specs.Outcome.{outcomeOf}
 use Rattle.endpoint.specs.Calls.{isReceived}
-use Rattle.endpoint.proofs.PlayLaws.{first-stands, decided-with, decided-number, decided-scheduled, decided-ranged, decided-near, decided-ahead, decided-apart, decided-left, decided-last, decided-readable, still-stores, stores-nothing, refused-stores, refused-keeps}
+use Rattle.playout.proofs.PlayLaws.{by-decision, first-stands, decided-with, decided-number, decided-scheduled, decided-ranged, decided-near, decided-ahead, decided-apart, decided-left, decided-readable, still-stores, stores-nothing, refused-stores, refused-keeps}
 
 -- neither the number of the record nor that of the clock stores anything
 early-stores-nothing : (e : Endpoint) (clock : ℕ) → stillStores (refusal14 e orElse refusal18 e clock) ≡ false
@@ -115,12 +116,16 @@ module _ (e : Endpoint) (f : List ℕ) (clock : ℕ) where
       arrival-left h
       ∙ ap (λ (d : Decision). d .after) (refused-keeps e (arrivalOf e f clock .answer .refusal) (moreBit f) (noise f) (stores-nothing (arrivalOf e f clock .answer .refusal) p q))
 
+  -- M_LAST and the last noise are set by a packet that counts as received, and by no other
   pub arrival-last : (arrivalOf e f clock .after .mlast ≡ cond (isReceived (arrivalOf e f clock .answer .refusal)) (moreBit f) (e .mlast))
       × (arrivalOf e f clock .after .lastnoise ≡ cond (isReceived (arrivalOf e f clock .answer .refusal)) (noise f) (e .lastnoise))
   unfolding arrivalOf arrivalBy frameDecision
-  arrival-last = decided-last e clock (voiceRefusal f) (stamp f) (sequence f) (moreBit f) (noise f)
+  arrival-last =
+      by-decision e clock (voiceRefusal f) (stamp f) (sequence f) (moreBit f) (noise f)
+      (λ d. (d .after .mlast ≡ cond (isReceived (d .refusal)) (moreBit f) (e .mlast)) × (d .after .lastnoise ≡ cond (isReceived (d .refusal)) (noise f) (e .lastnoise)))
+      (λ z. (refl, refl))
+      (λ k z. let h = ne-eqb (suc k) 0 (λ w. omega arith) in (rw h, rw h))
 
-  -- what is scheduled can be read
   -- the number of the order, and where there is none the due time and the record after
   pub arrival-number : arrivalOf e f clock .answer .refusal ≡ playRefusal e clock (voiceRefusal f) (stamp f) (sequence f)
   unfolding arrivalOf arrivalBy frameDecision

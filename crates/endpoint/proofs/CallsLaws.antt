@@ -7,11 +7,11 @@ use native.Mathlib.Omega.{arith}
 use Rattle.refusals.specs.Refusals.{_orElse_, ifTaken}
 use Rattle.frame.specs.Orders.{voiceRefusal}
 use Rattle.frame.specs.Fields.{stamp, sequence, moreBit, noise}
-use Rattle.endpoint.specs.declared.Endpoint.{Endpoint}
-use Rattle.endpoint.specs.Play.{freshRecord, refusal14, refusal17, refusal18, refusal20}
+use Rattle.playout.specs.declared.Endpoint.{Endpoint}
+use Rattle.playout.specs.Play.{freshRecord, refusal14, refusal17, refusal18, refusal20}
 use Rattle.endpoint.specs.Arrival.{arrivalOf}
 use Rattle.endpoint.specs.Calls.{Call, arrivalAt, recordAfter, dueTimes, Apart, isReceived, received, lastOf}
-use Rattle.endpoint.proofs.PlayLaws.{fresh-ranged, play-ranged}
+use Rattle.playout.proofs.PlayLaws.{fresh-ranged, play-ranged}
 use Rattle.endpoint.proofs.ArrivalLaws.{arrival-number, arrival-ranged, arrival-apart, arrival-left, arrival-last}
 
 -- the record that calls leave is one that the next call accepts

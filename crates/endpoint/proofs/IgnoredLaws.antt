@@ -9,8 +9,8 @@ use Rattle.octets.specs.Octets.{octet}
 use Rattle.blocks.proofs.BlocksLaws.{samples-alike}
 use Rattle.frame.specs.Fields.{address, control, isVoice, fieldM, fieldC, stamp, moreBit, coding, sequence, noise, na, signalBits}
 use Rattle.frame.specs.Orders.{refusal4, linkRefusal, layoutRefusal, voiceRefusal, signalRefusal}
-use Rattle.endpoint.specs.declared.Endpoint.{Endpoint}
-use Rattle.endpoint.specs.declared.Decision.{Decision}
+use Rattle.playout.specs.declared.Endpoint.{Endpoint}
+use Rattle.playout.specs.declared.Decision.{Decision}
 use Rattle.endpoint.specs.Read.{bitsOf, droppedOf, samplesOf, heardOf, readAnswer}
 use Rattle.endpoint.specs.Arrival.{frameDecision, resetOf, arrivalBy, arrivalOf}
 use Rattle.endpoint.specs.Signal.{signalOrder, signalAnswer}

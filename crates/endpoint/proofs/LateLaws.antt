@@ -6,7 +6,7 @@ use mathlib.Core.Logic.{_⊎_}
 use native.Mathlib.Omega.{arith}
 use lib.ListN.{length, take}
 use Rattle.frame.specs.Fields.{moreBit}
-use Rattle.endpoint.specs.declared.Endpoint.{Endpoint}
+use Rattle.playout.specs.declared.Endpoint.{Endpoint}
 use Rattle.endpoint.specs.Arrival.{arrivalOf}
 use Rattle.endpoint.specs.Calls.{Call, recordAfter, received, lastOf}
 use Rattle.endpoint.specs.Fill.{fillOf}

@@ -4,5 +4,4 @@ pub mod FillLaws
 pub mod IgnoredLaws
 pub mod LateLaws
 pub mod OneOutcome
-pub mod PlayLaws
 pub mod ReadLaws

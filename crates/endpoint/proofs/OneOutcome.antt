@@ -4,7 +4,7 @@ use mathlib.Core.Path.{_≡_}
 use mathlib.Core.List.{List}
 use contract.Lifetimes.{Lfts}
 use Rattle.octets.proofs.BoolLaws.{one-outcome}
-use Rattle.endpoint.specs.declared.Endpoint.{Endpoint}
+use Rattle.playout.specs.declared.Endpoint.{Endpoint}
 use Rattle.endpoint.specs.declared.Arrival.{Arrival}
 use Rattle.endpoint.specs.declared.Arrived.{Arrived}
 use Rattle.endpoint.specs.Arrival.{arrivalOf}

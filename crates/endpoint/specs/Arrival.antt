@@ -7,10 +7,10 @@ use Rattle.refusals.specs.Refusals.{ifTaken}
 use Rattle.coding.specs.Coding.{resetBit}
 use Rattle.frame.specs.Fields.{stamp, moreBit, coding, sequence, noise}
 use Rattle.frame.specs.Orders.{voiceRefusal}
-use Rattle.endpoint.specs.declared.Endpoint.{Endpoint}
-use Rattle.endpoint.specs.declared.Decision.{Decision}
+use Rattle.playout.specs.declared.Endpoint.{Endpoint}
+use Rattle.playout.specs.declared.Decision.{Decision}
 use Rattle.endpoint.specs.declared.Arrived.{Arrived}
-use Rattle.endpoint.specs.Play.{decision}
+use Rattle.playout.specs.Play.{decision}
 use Rattle.endpoint.specs.Read.{heardOf}
 
 -- the decision on the frame's fields: 14, 18, 1 to 5, 19, 6 to 9, 17, 20, or the due time; and the record after

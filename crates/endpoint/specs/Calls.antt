@@ -4,9 +4,9 @@ use mathlib.Core.Bool.{Bool, cond, _||_}
 use mathlib.Core.List.{List, [], _∷_}
 use lib.Dec.{eqb}
 use Rattle.refusals.specs.Refusals.{ifTaken}
-use Rattle.endpoint.specs.declared.Endpoint.{Endpoint}
+use Rattle.playout.specs.declared.Endpoint.{Endpoint}
 use Rattle.endpoint.specs.declared.Arrived.{Arrived}
-use Rattle.endpoint.specs.Play.{stillStores}
+use Rattle.playout.specs.Play.{stillStores}
 use Rattle.endpoint.specs.Arrival.{arrivalOf}
 
 pub record Call : Type 0 where

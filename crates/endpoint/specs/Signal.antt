@@ -5,7 +5,7 @@ use Rattle.refusals.specs.Refusals.{_orElse_, ifTaken}
 use Rattle.frame.specs.Fields.{stamp, na, signalBits}
 use Rattle.frame.specs.Orders.{signalRefusal}
 use Rattle.endpoint.specs.declared.SignalHeard.{SignalHeard}
-use Rattle.endpoint.specs.Play.{refusal14B, refusal17B, hold}
+use Rattle.playout.specs.Play.{refusal14B, refusal17B, hold}
 
 -- 14 (B only), 1 to 5, 19, 7, 8, 9, 17
 unfoldable pub signalOrder : ℕ → List ℕ → ℕ

@@ -34,14 +34,14 @@ use Rattle.origin.specs.Send.{madeHead, made, sendWritten, sendRefusal, sendAns
 use Rattle.origin.specs.Signal.{signalHead, signalWritten, signalRefusal, signalAnswer, signalBuffer}
 use Rattle.origin.proofs.SendLaws.{taken-send, made-passes, written-field, written-length}
 use Rattle.origin.proofs.SignalLaws.{taken-signal, signal-length}
-use Rattle.endpoint.specs.declared.Endpoint.{Endpoint}
+use Rattle.playout.specs.declared.Endpoint.{Endpoint}
 use Rattle.endpoint.specs.declared.Heard.{Heard}
 use Rattle.endpoint.specs.declared.SignalHeard.{SignalHeard}
-use Rattle.endpoint.specs.Play.{freshRecord, clockLimit, recordBad, refusal14, inTurn, hold, dueAt, playRefusal, scheduledAt, afterScheduled}
+use Rattle.playout.specs.Play.{freshRecord, clockLimit, recordBad, refusal14, inTurn, hold, dueAt, playRefusal, scheduledAt, afterScheduled}
 use Rattle.endpoint.specs.Read.{heardOf, readAnswer}
 use Rattle.endpoint.specs.Arrival.{frameDecision, arrivalBy, arrivalOf}
 use Rattle.endpoint.specs.Signal.{signalOrder, signalAnswer as signalHeard}
-use Rattle.endpoint.proofs.PlayLaws.{in-range, fresh-ranged, decided-scheduled, decided-number, by-decision}
+use Rattle.playout.proofs.PlayLaws.{in-range, fresh-ranged, decided-scheduled, decided-number, by-decision}
 use Rattle.examples.specs.Examples.{Arrives, first, three, table, sent, startAnswer, startFrame, thenZeros, LegalSend, LegalVoice, LegalSignal, Arriving, LateOn, holds, AllHold, none, _also_}
 use Rattle.examples.specs.Examples.{starts, thenLevel, packs, addresses, noAddress, waits, stamps, schedules, next, plays, late, lateEver, signals}
 

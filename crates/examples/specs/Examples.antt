@@ -18,8 +18,8 @@ use Rattle.origin.specs.declared.Step.the-variants.{Start}
 use Rattle.origin.specs.Burst.{refusal13}
 use Rattle.origin.specs.Send.{sendAnswer, sendBuffer}
 use Rattle.origin.specs.Signal.{signalAnswer, signalBuffer}
-use Rattle.endpoint.specs.declared.Endpoint.{Endpoint}
-use Rattle.endpoint.specs.Play.{freshRecord, clockLimit, refusal14, refusal18}
+use Rattle.playout.specs.declared.Endpoint.{Endpoint}
+use Rattle.playout.specs.Play.{freshRecord, clockLimit, refusal14, refusal18}
 use Rattle.endpoint.specs.Read.{readAnswer}
 use Rattle.endpoint.specs.Arrival.{arrivalOf}
 use Rattle.endpoint.specs.Signal.{signalAnswer as signalHeard}

@@ -10,7 +10,7 @@ use Rattle.frame.specs.Fields.{na, signalBits, stamp}
 use Rattle.onward.specs.Onward.{stampAfter}
 use Rattle.origin.specs.Signal.{signalWritten, signalRefusal}
 use Rattle.origin.proofs.SignalLaws.{taken-signal, signal-read, signal-bits, signal-na, signal-stamp}
-use Rattle.endpoint.specs.Play.{hold}
+use Rattle.playout.specs.Play.{hold}
 use Rattle.endpoint.specs.Signal.{signalOrder, signalAnswer}
 use Rattle.watch.specs.declared.Watch.{Watch}
 use Rattle.watch.specs.declared.Event.{Event}

@@ -13,9 +13,9 @@ use Rattle.node.specs.Node.{forwardRefusal}
 use Rattle.origin.specs.Burst.{stepNumbered}
 use Rattle.origin.specs.Send.{sendRefusal, sendWritten, sendSseq}
 use Rattle.origin.specs.declared.Step.{Step}
-use Rattle.endpoint.specs.Play.{freshRecord}
+use Rattle.playout.specs.Play.{freshRecord}
 use Rattle.endpoint.specs.Arrival.{arrivalOf}
-use Rattle.endpoint.specs.declared.Endpoint.{Endpoint}
+use Rattle.playout.specs.declared.Endpoint.{Endpoint}
 use Rattle.endpoint.specs.declared.Arrived.{Arrived}
 use Rattle.walking.specs.Text.{line, stopLine}
 

@@ -9,9 +9,9 @@ ghost use Rattle.walking.specs.Text.{digits, number, afterNumber, line, 
 ghost use Rattle.walking.specs.Walk.{atFirst, two, four, allowed, legal, told, made, byOrigin, byNode, byEndpoint, outcome, counted, step};
 ghost use Rattle.walking.specs.Held.{carriedOf, toldOf, SevenAtMost, outcomeOf, Stepping};
 ghost use Rattle.walking.specs.Stream.{ready, Passed, Filled, Flushed};
-use endpoint::Endpoint;
 use onward::Sent;
 use origin::Step;
+use playout::Endpoint;
 
 // What is carried on from record to record. A voice frame has at most 138 octets; length says how many of frame are it.
 struct State {

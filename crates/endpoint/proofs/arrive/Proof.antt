@@ -42,10 +42,10 @@ use denote.Triple.Table.{entered, cited}
 use denote.Triple.Walked.{says, Stays, stay-ref, stay-none, stay-none-slice, walkOf, goes-none, goes-none-slice, goes-ref, Walks, ends-at, walked, walk-meets}
 use denote.Exit.{yes}
 use Rattle.endpoint.specs.Arrival.{arrivalOf}
-use Rattle.endpoint.specs.declared.Endpoint.{Endpoint}
+use Rattle.playout.specs.declared.Endpoint.{Endpoint}
 use Rattle.endpoint.specs.declared.Arrived.{Arrived}
-use Rattle.endpoint.proofs.Endpoint as Sₜ
-use Rattle.endpoint.proofs.Endpoint.Laws as Sₗ
+use Rattle.playout.proofs.Endpoint as Sₜ
+use Rattle.playout.proofs.Endpoint.Laws as Sₗ
 use Rattle.endpoint.proofs.Arrival as Aₜ
 use Rattle.endpoint.proofs.Arrival.Laws as Aₗ
 use Rattle.endpoint.proofs.Arrived as Rₜ

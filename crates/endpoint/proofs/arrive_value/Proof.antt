@@ -5,7 +5,6 @@ use lib.ListN.{replicate}
 use Rattle.endpoint.specs.Read.{heardOf}
 use Rattle.endpoint.proofs.ReadLaws.{all-heard}
 use Rattle.endpoint.proofs.ArrivalLaws.{outcome-readable, arrived-is}
-use borrow.Author.Needs.{needs}
 use Rattle.endpoint.proofs.arrive_value.Statement.{statement}
 use Rattle.endpoint.proofs.arrive_value.Tie as tie
 
@@ -13,7 +12,7 @@ judge-requires : tie.Need-judge-requires
 judge-requires c κs = tt
 
 slice-aggregate-hear-into : tie.Need-slice-aggregate-hear-into
-slice-aggregate-hear-into c = search needs
+slice-aggregate-hear-into c = omega arith
 
 hear-into-requires : tie.Need-hear-into-requires
 hear-into-requires c κs =

@@ -1,7 +1,6 @@
 -- `endpoint::blocks_into` meets its contract.
 use native.Mathlib.Omega.{arith}
 use Rattle.endpoint.proofs.ReadLaws.{steps-there, steps-heard}
-use borrow.Author.Needs.{needs}
 use Rattle.endpoint.proofs.blocks_into.Statement.{statement}
 use Rattle.endpoint.proofs.blocks_into.Tie as tie
 
@@ -26,13 +25,13 @@ read-blocks-requires c κs =
     steps-there (start .args .frame .now) (t .result .s) (t .result .dropped) (b .result) (l .result) (c .less .result) (t .ensures) (b .ensures .0) (l .ensures .0) (c .less .ensures) (start .pre .0)
 
 slice-aggregate-copy : tie.Need-slice-aggregate-copy
-slice-aggregate-copy c = search needs
+slice-aggregate-copy c = omega arith
 
 copy-requires : tie.Need-copy-requires
-copy-requires c κs = search needs
+copy-requires c κs = omega arith
 
 same-length : tie.Need-same-length
-same-length c = search needs
+same-length c = omega arith
 
 returns : tie.Need-returns
 returns c =

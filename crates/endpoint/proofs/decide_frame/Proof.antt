@@ -1,7 +1,7 @@
 -- `endpoint::decide_frame` meets its contract.
 use mathlib.Core.Path.{_≡_, ap₂, _∙_}
 use Rattle.refusals.specs.Refusals.{_orElse_}
-use Rattle.endpoint.specs.Play.{refusal14, refusal18}
+use Rattle.playout.specs.Play.{refusal14, refusal18}
 use Rattle.endpoint.proofs.ArrivalLaws.{decided-fields, decided-early}
 use Rattle.endpoint.proofs.decide_frame.Statement.{statement}
 use Rattle.endpoint.proofs.decide_frame.Tie as tie

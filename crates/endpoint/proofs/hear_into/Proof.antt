@@ -1,7 +1,6 @@
 -- `endpoint::hear_into` meets its contract.
 use native.Mathlib.Omega.{arith}
 use Rattle.endpoint.proofs.ReadLaws.{into-refused, into-taken}
-use borrow.Author.Needs.{needs}
 use Rattle.endpoint.proofs.hear_into.Statement.{statement}
 use Rattle.endpoint.proofs.hear_into.Tie as tie
 
@@ -9,7 +8,7 @@ quiet-requires : tie.Need-quiet-requires
 quiet-requires c κs = omega arith
 
 same-length : tie.Need-same-length
-same-length c = search needs
+same-length c = omega arith
 
 returns : tie.Need-returns
 returns c =
@@ -20,7 +19,7 @@ blocks-into-requires : tie.Need-blocks-into-requires
 blocks-into-requires c κs = let start = c .before .before .before .before in (start .pre .0 (c .before .if1 .left), start .pre .1)
 
 same-length-2 : tie.Need-same-length-2
-same-length-2 c = search needs
+same-length-2 c = omega arith
 
 returns-2 : tie.Need-returns-2
 returns-2 c =

@@ -5,7 +5,6 @@ use native.Mathlib.Omega.{arith}
 use lib.ListN.{replicate}
 use Rattle.endpoint.specs.Read.{heardOf, readAnswer}
 use Rattle.endpoint.proofs.ReadLaws.{heard-of, all-heard}
-use borrow.Author.Needs.{needs}
 use Rattle.endpoint.proofs.read.Statement.{statement}
 use Rattle.endpoint.proofs.read.Tie as tie
 
@@ -16,10 +15,10 @@ tell-requires : tie.Need-tell-requires
 tell-requires c κs = tt
 
 slice-aggregate-hear-into : tie.Need-slice-aggregate-hear-into
-slice-aggregate-hear-into c = search needs
+slice-aggregate-hear-into c = omega arith
 
 hear-into-requires : tie.Need-hear-into-requires
-hear-into-requires c κs = search needs
+hear-into-requires c κs = (λ z. sym (c .before .before .voice-refusal .ensures) ∙ z, omega arith)
 
 returns : tie.Need-returns
 unfolding readAnswer

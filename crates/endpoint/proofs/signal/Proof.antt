@@ -4,7 +4,7 @@ use mathlib.Core.List.{List}
 use Rattle.refusals.proofs.RefusalLaws.{refused-is, done-is}
 use Rattle.frame.specs.Fields.{stamp, na, signalBits}
 use Rattle.endpoint.specs.declared.SignalHeard.{SignalHeard}
-use Rattle.endpoint.specs.Play.{hold}
+use Rattle.playout.specs.Play.{hold}
 use Rattle.endpoint.specs.Signal.{signalAnswer, signalOrder}
 use Rattle.endpoint.proofs.signal.Statement.{statement}
 use Rattle.endpoint.proofs.signal.Tie as tie

@@ -5,7 +5,7 @@ use mathlib.Core.List.{List}
 use Rattle.refusals.specs.Refusals.{_orElse_, refuse}
 use Rattle.frame.specs.Fields.{stamp}
 use Rattle.frame.specs.Orders.{signalRefusal}
-use Rattle.endpoint.specs.Play.{buildoutBad, stampLate}
+use Rattle.playout.specs.Play.{buildoutBad, stampLate}
 use Rattle.endpoint.specs.Signal.{signalOrder}
 use Rattle.endpoint.proofs.signal_order.Statement.{statement}
 use Rattle.endpoint.proofs.signal_order.Tie as tie

@@ -2,7 +2,7 @@
 use mathlib.Core.Path.{ap, _∙_}
 use Rattle.coding.specs.Coding.{sampleBits}
 use Rattle.endpoint.proofs.ReadLaws.{told-refused, told-taken}
-use borrow.Author.Needs.{needs}
+use native.Mathlib.Omega.{arith}
 use Rattle.endpoint.proofs.tell.Statement.{statement}
 use Rattle.endpoint.proofs.tell.Tie as tie
 
@@ -25,7 +25,7 @@ sample-bits-requires : tie.Need-sample-bits-requires
 sample-bits-requires c κs = tt
 
 cast-t9 : tie.Need-cast-t9
-cast-t9 c = search needs
+cast-t9 c = omega arith
 
 returns-2 : tie.Need-returns-2
 returns-2 c =

@@ -1,6 +1,6 @@
 use mathlib.Core.Path.{refl}
-use Rattle.endpoint.proofs.stamp_late.Statement.{statement}
-use Rattle.endpoint.proofs.stamp_late.Tie as tie
+use Rattle.playout.proofs.stamp_late.Statement.{statement}
+use Rattle.playout.proofs.stamp_late.Tie as tie
 
 returns : tie.Need-returns
 returns c = refl

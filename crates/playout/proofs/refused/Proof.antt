@@ -1,7 +1,7 @@
 use mathlib.Core.Path.{sym}
-use Rattle.endpoint.proofs.PlayLaws.{refused-stores, refused-keeps}
-use Rattle.endpoint.proofs.refused.Statement.{statement}
-use Rattle.endpoint.proofs.refused.Tie as tie
+use Rattle.playout.proofs.PlayLaws.{refused-stores, refused-keeps}
+use Rattle.playout.proofs.refused.Statement.{statement}
+use Rattle.playout.proofs.refused.Tie as tie
 
 returns : tie.Need-returns
 returns c = let a = c .before .args in sym (refused-stores (a .e) (a .n) (a .more) (a .noise) (c .if1 .taken))

@@ -1,7 +1,7 @@
-use borrow.Author.Needs.{needs}
-use Rattle.endpoint.proofs.PlayLaws.{due-turn, due-end, due-held}
-use Rattle.endpoint.proofs.due_at.Statement.{statement}
-use Rattle.endpoint.proofs.due_at.Tie as tie
+use native.Mathlib.Omega.{arith}
+use Rattle.playout.proofs.PlayLaws.{due-turn, due-end, due-held}
+use Rattle.playout.proofs.due_at.Statement.{statement}
+use Rattle.playout.proofs.due_at.Tie as tie
 
 in-turn-requires : tie.Need-in-turn-requires
 in-turn-requires c κs = tt
@@ -16,10 +16,10 @@ hold-requires : tie.Need-hold-requires
 hold-requires c κs = tt
 
 cast-t : tie.Need-cast-t
-cast-t c = search needs
+cast-t c = omega arith
 
 add-t : tie.Need-add-t
-add-t c = search needs
+add-t c = omega arith
 
 returns-2 : tie.Need-returns-2
 returns-2 c =

@@ -4,8 +4,8 @@ use mathlib.Core.Bool.{Bool, cond, not, _&&_, _||_}
 use lib.Dec.{ltb, eqb}
 use Rattle.octets.specs.Sequence.{nextNumber}
 use Rattle.refusals.specs.Refusals.{_orElse_, refuse, ifTaken}
-use Rattle.endpoint.specs.declared.Endpoint.{Endpoint}
-use Rattle.endpoint.specs.declared.Decision.{Decision}
+use Rattle.playout.specs.declared.Endpoint.{Endpoint}
+use Rattle.playout.specs.declared.Decision.{Decision}
 
 -- fresh, all but B are 0
 abbrev pub freshRecord : ℕ → Endpoint

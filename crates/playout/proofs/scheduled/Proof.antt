@@ -1,15 +1,15 @@
 use Prim.Native.Nat.{ℕ, _+_}
 use mathlib.Core.Path.{ap}
-use borrow.Author.Needs.{needs}
-use Rattle.endpoint.specs.declared.Decision.{Decision}
-use Rattle.endpoint.proofs.scheduled.Statement.{statement}
-use Rattle.endpoint.proofs.scheduled.Tie as tie
+use native.Mathlib.Omega.{arith}
+use Rattle.playout.specs.declared.Decision.{Decision}
+use Rattle.playout.proofs.scheduled.Statement.{statement}
+use Rattle.playout.proofs.scheduled.Tie as tie
 
 rseq-after-requires : tie.Need-rseq-after-requires
 rseq-after-requires c κs = tt
 
 add-t8 : tie.Need-add-t8
-add-t8 c = search needs
+add-t8 c = omega arith
 
 returns : tie.Need-returns
 returns c =

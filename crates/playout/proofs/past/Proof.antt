@@ -1,13 +1,12 @@
 use Prim.Native.Nat.{_+_}
 use native.Mathlib.Omega.{arith}
 use borrow.Author.Tests.{le-ltb}
-use Rattle.endpoint.proofs.PlayLaws.{past-sum}
-use borrow.Author.Needs.{needs}
-use Rattle.endpoint.proofs.past.Statement.{statement}
-use Rattle.endpoint.proofs.past.Tie as tie
+use Rattle.playout.proofs.PlayLaws.{past-sum}
+use Rattle.playout.proofs.past.Statement.{statement}
+use Rattle.playout.proofs.past.Tie as tie
 
 sub-result : tie.Need-sub-result
-sub-result c = search needs
+sub-result c = omega arith
 
 returns : tie.Need-returns
 returns c = let a = c .before .args in past-sum (a .t) (a .from) (a .ms) (c .if1 .taken)

@@ -3,10 +3,10 @@ use mathlib.Core.Path.{_≡_, ap₂, _∙_}
 use mathlib.Core.Bool.{Bool, _&&_, _||_}
 use lib.Dec.{ltb}
 use Rattle.refusals.specs.Refusals.{refuse}
-use Rattle.endpoint.specs.declared.Endpoint.{Endpoint}
-use Rattle.endpoint.specs.Play.{inTurn, stampLate, refusal17}
-use Rattle.endpoint.proofs.refusal_17.Statement.{statement}
-use Rattle.endpoint.proofs.refusal_17.Tie as tie
+use Rattle.playout.specs.declared.Endpoint.{Endpoint}
+use Rattle.playout.specs.Play.{inTurn, stampLate, refusal17}
+use Rattle.playout.proofs.refusal_17.Statement.{statement}
+use Rattle.playout.proofs.refusal_17.Tie as tie
 
 -- the number, of two tests that were made one by one
 judged : (e : Endpoint) (clock stamp seq n : ℕ) (late turn : Bool) → late ≡ stampLate (e .buildout) stamp → turn ≡ inTurn e seq

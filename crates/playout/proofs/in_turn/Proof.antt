@@ -1,7 +1,7 @@
 use mathlib.Core.Path.{refl}
-use Rattle.endpoint.specs.Play.{inTurn}
-use Rattle.endpoint.proofs.in_turn.Statement.{statement}
-use Rattle.endpoint.proofs.in_turn.Tie as tie
+use Rattle.playout.specs.Play.{inTurn}
+use Rattle.playout.proofs.in_turn.Statement.{statement}
+use Rattle.playout.proofs.in_turn.Tie as tie
 
 returns : tie.Need-returns
 unfolding inTurn

@@ -11,10 +11,9 @@ use Rattle.octets.specs.Sequence.{nextNumber}
 use Rattle.octets.proofs.BoolLaws.{or-false}
 use Rattle.refusals.specs.Refusals.{_orElse_, refuse}
 use Rattle.refusals.proofs.RefusalLaws.{orElse-zero, orElse-assoc, orElse-take, orElse-pass, refuse-zero, if-taken, if-refused}
-use Rattle.endpoint.specs.declared.Endpoint.{Endpoint}
-use Rattle.endpoint.specs.declared.Decision.{Decision}
-use Rattle.endpoint.specs.Play.{freshRecord, clockLimit, recordBad, refusal14, refusal18, inTurn, hold, dueAt, refusal17, refusal20, playRefusal, rseqAfter, afterScheduled, scheduledAt, stillStores, afterRefused, refusedWith, decision}
-use Rattle.endpoint.specs.Calls.{isReceived}
+use Rattle.playout.specs.declared.Endpoint.{Endpoint}
+use Rattle.playout.specs.declared.Decision.{Decision}
+use Rattle.playout.specs.Play.{freshRecord, clockLimit, recordBad, refusal14, refusal18, inTurn, hold, dueAt, refusal17, refusal20, playRefusal, rseqAfter, afterScheduled, scheduledAt, stillStores, afterRefused, refusedWith, decision}
 
 -- what 14 does not refuse
 pub record InRange (e : Endpoint) : Type 0 where
@@ -284,15 +283,6 @@ module _ (e : Endpoint) (clock : ℕ) where
       pub decided-left : (decision e clock given stamp seq more noise .refusal ≡ 0 → ⊥)
           → decision e clock given stamp seq more noise .after ≡ afterRefused e (decision e clock given stamp seq more noise .refusal) more noise
       decided-left = by-decision (λ d. (d .refusal ≡ 0 → ⊥) → d .after ≡ afterRefused e (d .refusal) more noise) (λ z r. absurd (r refl)) (λ k z r. refl)
-
-      -- M_LAST and the last noise are set by a packet that counts as received, and by no other
-      pub decided-last : (decision e clock given stamp seq more noise .after .mlast ≡ cond (isReceived (decision e clock given stamp seq more noise .refusal)) more (e .mlast))
-          × (decision e clock given stamp seq more noise .after .lastnoise ≡ cond (isReceived (decision e clock given stamp seq more noise .refusal)) noise (e .lastnoise))
-      decided-last =
-          by-decision
-          (λ d. (d .after .mlast ≡ cond (isReceived (d .refusal)) more (e .mlast)) × (d .after .lastnoise ≡ cond (isReceived (d .refusal)) noise (e .lastnoise)))
-          (λ z. (refl, refl))
-          (λ k z. let h = ne-eqb (suc k) 0 (λ w. omega arith) in (rw h, rw h))
 
       -- what is scheduled can be read
       pub decided-readable : decision e clock given stamp seq more noise .refusal ≡ 0 → given ≡ 0

@@ -2,8 +2,8 @@ use mathlib.Core.Path.{sym, ap, _∙_}
 use mathlib.Core.Bool.{Bool, cond}
 use borrow.Author.Tests.{eq-eqb, ne-eqb}
 use Rattle.octets.specs.Sequence.{nextNumber}
-use Rattle.endpoint.proofs.rseq_after.Statement.{statement}
-use Rattle.endpoint.proofs.rseq_after.Tie as tie
+use Rattle.playout.proofs.rseq_after.Statement.{statement}
+use Rattle.playout.proofs.rseq_after.Tie as tie
 
 next-number-requires : tie.Need-next-number-requires
 next-number-requires c κs = tt

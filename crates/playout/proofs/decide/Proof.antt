@@ -1,9 +1,9 @@
 use mathlib.Core.Path.{_≡_, sym, _∙_}
 use Rattle.refusals.specs.Refusals.{_orElse_}
-use Rattle.endpoint.specs.Play.{refusal14, refusal18, playRefusal}
-use Rattle.endpoint.proofs.PlayLaws.{first-is, first-early, first-stands, last-is, last-stands, due-fits, decided-at, decided-with}
-use Rattle.endpoint.proofs.decide.Statement.{statement}
-use Rattle.endpoint.proofs.decide.Tie as tie
+use Rattle.playout.specs.Play.{refusal14, refusal18, playRefusal}
+use Rattle.playout.proofs.PlayLaws.{first-is, first-early, first-stands, last-is, last-stands, due-fits, decided-at, decided-with}
+use Rattle.playout.proofs.decide.Statement.{statement}
+use Rattle.playout.proofs.decide.Tie as tie
 
 -- the number judged before the due time is known, of the calls up to there
 first : (c : tie.After-or-else2)

@@ -3,10 +3,10 @@ use mathlib.Core.Path.{_≡_, ap₂, _∙_}
 use mathlib.Core.Bool.{Bool, _||_}
 use lib.Dec.{ltb}
 use Rattle.refusals.specs.Refusals.{refuse}
-use Rattle.endpoint.specs.declared.Endpoint.{Endpoint}
-use Rattle.endpoint.specs.Play.{clockLimit, buildoutBad, recordBad, refusal14}
-use Rattle.endpoint.proofs.refusal_14.Statement.{statement}
-use Rattle.endpoint.proofs.refusal_14.Tie as tie
+use Rattle.playout.specs.declared.Endpoint.{Endpoint}
+use Rattle.playout.specs.Play.{clockLimit, buildoutBad, recordBad, refusal14}
+use Rattle.playout.proofs.refusal_14.Statement.{statement}
+use Rattle.playout.proofs.refusal_14.Tie as tie
 
 -- the number, of two tests that were made beforehand
 judged : (e : Endpoint) (n : ℕ) (bad long : Bool) → bad ≡ buildoutBad (e .buildout) → long ≡ ltb (e .lastclock + 455) (e .end)
