@@ -347,8 +347,8 @@ fn main() {
          optimisations, in one run. Both are called in the same flat form, pointers and lengths over a C \
          boundary that nothing is inlined across, and every number, length and octet that is lent is hidden \
          from the compiler at every call: neither knows anything of its caller. Nanoseconds a call, best of \
-         {ROUNDS} rounds of about {} ms, all in turn. Buffers and records are used again and not cleared. One \
-         core; a circuit is {FRAMES_A_SECOND} frames a second in each direction.\n",
+         {ROUNDS} rounds of about {} ms, all in turn. Buffers and records begin at a cache line, are used again \
+         and are not cleared. One core; a circuit is {FRAMES_A_SECOND} frames a second in each direction.\n",
         ROUND.as_millis()
     );
     println!(

@@ -1,5 +1,6 @@
 //! How long a work takes.
 
+use std::alloc::{GlobalAlloc, Layout, System};
 use std::hint::black_box;
 use std::time::{Duration, Instant};
 
@@ -35,4 +36,26 @@ pub fn repeated<T: 'static>(number: u8, mut lent: T, mut call: impl FnMut(&mut T
             assert_eq!(black_box(call(black_box(&mut lent))), number);
         }
     })
+}
+
+/// Begins every buffer at a cache line, so that nothing depends on where it happens to fall: a store
+/// across two pages costs more than the shortest calls.
+struct CacheLines;
+
+#[global_allocator]
+static CACHE_LINES: CacheLines = CacheLines;
+
+fn at_a_line(layout: Layout) -> Layout {
+    layout.align_to(64).expect("64 is a power of two")
+}
+
+// Sound: the system's own allocator, always asked in the same way.
+unsafe impl GlobalAlloc for CacheLines {
+    unsafe fn alloc(&self, layout: Layout) -> *mut u8 {
+        System.alloc(at_a_line(layout))
+    }
+
+    unsafe fn dealloc(&self, pointer: *mut u8, layout: Layout) {
+        System.dealloc(pointer, at_a_line(layout));
+    }
 }
