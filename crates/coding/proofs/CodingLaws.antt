@@ -13,7 +13,8 @@ use borrow.Author.Tests.{lt-ltb, lt-leb, ne-eqb, leb-true, ltb-true, ltb-false}
 use Rattle.octets.specs.Octets.{tab}
 use Rattle.octets.proofs.TabLaws.{agree}
 use Rattle.octets.proofs.BoolLaws.{and-true}
-use Rattle.coding.specs.Coding.{row, Digits, digitsOf, digitAt, sampleBits, droppableBits, reserved}
+use Rattle.coding.specs.Coding.{row, sampleBits, droppableBits, reserved}
+use Rattle.coding.specs.Digits.{Digits, digitsOf, digitAt}
 
 pub above-31 : (t : ℕ) → 32 ≤ t → row t ≡ (0, 0, 0)
 unfolding row

@@ -1,11 +1,7 @@
 -- Document 01, "Coding types": the facts that every coding type carries, and the frame length.
-use Prim.Native.Nat.{ℕ, zero, suc, _+_, _*_, _-_, _/_, _%_, _^_}
-use mathlib.Core.Path.{_≡_}
-use mathlib.Core.Bool.{Bool, true, cond}
-use mathlib.Core.List.{List}
-use lib.Dec.{leb, ltb, eqb}
-use Rattle.octets.specs.Octets.{tab}
-use lib.ListN.{getD}
+use Prim.Native.Nat.{ℕ, _+_, _*_, _-_}
+use mathlib.Core.Bool.{Bool, cond}
+use lib.Dec.{leb, eqb}
 use Rattle.refusals.specs.Refusals.{refuse}
 
 -- the rows of the table: S, D, and 1 where a new burst resets the coder. All other types are reserved
@@ -18,19 +14,6 @@ row t =
     (cond (eqb t 20) (4, 2, 1)
     (cond (eqb t 21) (5, 3, 1)
     (cond (eqb t 24) (8, 2, 1) (0, 0, 0)))))))
-
--- a table of 32 whose entries are hexadecimal digits
-abbrev pub Digits : List ℕ → Type 0
-Digits xs = tab (λ k. ltb (getD xs k 0) 16) 32 ≡ tab (λ k. true) 32
-
--- the first n of its entries from `from` on as one number, a digit for each, the first the lowest
-unfoldable pub digitsOf : List ℕ → ℕ → ℕ → ℕ
-digitsOf xs from zero = 0
-digitsOf xs from (suc n) = digitsOf xs from n + getD xs (from + n) 0 * 2 ^ (4 * n)
-
--- the digit for type t of a table in two such halves; 0 past its end
-unfoldable pub digitAt : ℕ → ℕ → ℕ → ℕ
-digitAt low high t = cond (ltb 31 t) 0 (cond (ltb t 16) low high / 2 ^ (4 * (t % 16)) % 16)
 
 abbrev pub sampleBits : ℕ → ℕ
 sampleBits t = row t .0

@@ -1,2 +1,3 @@
 pub mod Coding
+pub mod Digits
 pub mod Noise

@@ -1,7 +1,8 @@
 // The facts that every coding type carries, from Figure 5 and Table 3, and the noise levels.
 ghost use mathlib.Core.Path.{_≡_};
 ghost use Prim.Native.Nat.{_*_, _/_, _%_, _^_, _<_, _≤_};
-ghost use Rattle.coding.specs.Coding.{digitsOf, digitAt, Digits, sampleBits, droppableBits, resetBit, reserved, frameLength, refusal6};
+ghost use Rattle.coding.specs.Coding.{sampleBits, droppableBits, resetBit, reserved, frameLength, refusal6};
+ghost use Rattle.coding.specs.Digits.{digitsOf, digitAt, Digits};
 ghost use Rattle.coding.specs.Noise.{noiseOf, paper};
 use octets::less;
 use octets::pick;

@@ -7,7 +7,7 @@ ghost use lib.ListN.{length};
 ghost use Rattle.octets.specs.Octets.{octet};
 ghost use Rattle.refusals.specs.Refusals.{_orElse_, refusal1};
 ghost use Rattle.coding.specs.Coding.{droppableBits};
-ghost use Rattle.frame.specs.Fields.{address, control, isVoice, fieldM, fieldC, stamp, moreBit, coding as codingOf, sequence, noise, na, signalBits};
+ghost use Rattle.frame.specs.Fields.{address, control, isVoice, fieldM, fieldC, stamp, moreBit, coding, sequence, noise, na, signalBits};
 ghost use Rattle.frame.specs.Orders.{refusal2, refusal3, refusal4, refusal5, refusal6, refusal19, legalLength, linkRefusal, layoutRefusal, takenRefusal, voiceRefusal, signalRefusal};
 ghost use Rattle.frame.specs.Calls.{linkAnswer, takenAnswer};
 use coding::Coding;
@@ -46,7 +46,7 @@ pub fn field_c(frame: &[u8]) -> usize
 }
 
 pub fn coding_of(frame: &[u8]) -> Coding
-    ensures { λ r. ⌜ r .0 ≡ codingOf (now (frame .entry)) ⌝ }
+    ensures { λ r. ⌜ r .0 ≡ coding (now (frame .entry)) ⌝ }
 {
     Coding((at(frame, 6) % 32) as u8)
 }
@@ -125,7 +125,7 @@ fn refusal_6(frame: &[u8]) -> u8
 
 // 7, 8 and 9 of voice and of signalling alike: `most` is the M that the frame must have, `whole` its length.
 fn laid_out(m: usize, c: usize, len: usize, stamp: u8, most: usize, whole: usize) -> u8
-    ensures { λ r. ⌜ ((f : List ℕ) → m ≡ fieldM f → c ≡ fieldC f → len ≡ length f → stamp ≡ octet 6 f → most ≡ cond (isVoice f) (droppableBits (codingOf f)) 0 → whole ≡ legalLength f → r ≡ layoutRefusal f) ⌝ }
+    ensures { λ r. ⌜ ((f : List ℕ) → m ≡ fieldM f → c ≡ fieldC f → len ≡ length f → stamp ≡ octet 6 f → most ≡ cond (isVoice f) (droppableBits (coding f)) 0 → whole ≡ legalLength f → r ≡ layoutRefusal f) ⌝ }
 {
     let r7 = refuse((m != most) | (m < c), 7);
     let r8 = refuse(len != whole, 8);
@@ -134,14 +134,14 @@ fn laid_out(m: usize, c: usize, len: usize, stamp: u8, most: usize, whole: usize
 }
 
 // The same of the octets and the length that they go by: numbers pass in registers, a slice through memory.
-fn layout_by(voice: bool, len: usize, fifth: usize, stamp: u8, coding: Coding) -> u8
-    ensures { λ r. ⌜ ((f : List ℕ) → voice ≡ isVoice f → len ≡ length f → fifth ≡ octet 5 f → stamp ≡ octet 6 f → coding .0 ≡ codingOf f → r ≡ layoutRefusal f) ⌝ }
+fn layout_by(voice: bool, len: usize, fifth: usize, stamp: u8, kind: Coding) -> u8
+    ensures { λ r. ⌜ ((f : List ℕ) → voice ≡ isVoice f → len ≡ length f → fifth ≡ octet 5 f → stamp ≡ octet 6 f → kind .0 ≡ coding f → r ≡ layoutRefusal f) ⌝ }
 {
     let m = fifth / 16 % 4;
     let c = fifth % 4;
     if voice {
-        let most = octets::wide(coding.droppable_bits());
-        let whole = coding.frame_length(octets::less(m, c));
+        let most = octets::wide(kind.droppable_bits());
+        let whole = kind.frame_length(octets::less(m, c));
         return laid_out(m, c, len, stamp, most, whole);
     }
     laid_out(m, c, len, stamp, 0, 10)

@@ -3,7 +3,7 @@ use mathlib.Core.Path.{_≡_, refl, sym, ap, _∙_}
 use Prim.Native.Nat.{ℕ, _+_, _*_, _%_, _^_, _-_, _≤_}
 use native.Mathlib.Omega.{arith}
 use borrow.Author.Needs.{needs}
-use Rattle.coding.specs.Coding.{Digits, digitsOf}
+use Rattle.coding.specs.Digits.{Digits, digitsOf}
 use Rattle.coding.proofs.CodingLaws.{digits-more, digits-fit}
 use Rattle.coding.proofs.digits.Statement.{statement}
 use Rattle.coding.proofs.digits.Tie as tie

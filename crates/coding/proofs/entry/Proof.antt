@@ -4,7 +4,7 @@ use mathlib.Core.Path.{_≡_, sym, ap₂, _∙_}
 use mathlib.Core.Bool.{Bool, cond}
 use native.Mathlib.Omega.{arith}
 use borrow.Author.Tests.{lt-ltb, le-ltb}
-use Rattle.coding.specs.Coding.{digitAt}
+use Rattle.coding.specs.Digits.{digitAt}
 use Rattle.coding.proofs.CodingLaws.{past}
 use Rattle.coding.proofs.entry.Statement.{statement}
 use Rattle.coding.proofs.entry.Tie as tie

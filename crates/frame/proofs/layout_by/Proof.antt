@@ -51,8 +51,8 @@ returns c = λ f ev el e5 e6 et.
     let v = c .before .before .before .before .before .if1 .taken in
     let a = c .before .before .before .before .before .before .args in
     c .laid-out .ensures f (ap (λ (x : ℕ). x / 16 % 4) e5) (ap (λ (x : ℕ). x % 4) e5) el e6
-    (most-is f (a .voice) true ev v (wide .result) (most-of f (a .coding .0) et (d .result) (wide .result) (d .ensures) (wide .ensures .0)))
-    (whole-is f (a .voice) true ev v (whole .result) (whole-of f (a .coding .0) et (a .fifth) (lost .result) (whole .result) e5 (lost .ensures) (whole .ensures)))
+    (most-is f (a .voice) true ev v (wide .result) (most-of f (a .kind .0) et (d .result) (wide .result) (d .ensures) (wide .ensures .0)))
+    (whole-is f (a .voice) true ev v (whole .result) (whole-of f (a .kind .0) et (a .fifth) (lost .result) (whole .result) e5 (lost .ensures) (whole .ensures)))
 
 laid-out-requires-2 : tie.Need-laid-out-requires-2
 laid-out-requires-2 c κs = tt
