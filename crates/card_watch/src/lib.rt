@@ -93,14 +93,14 @@ pub extern "C" fn pelgrant_watch_start(
         return size;
     }
     let a = watch::start(states, refresh, keepalive, clock);
-    let number = a.refusal;
-    if number != 0 {
-        return number;
+    let refused = a.refusal;
+    if refused != 0 {
+        return refused;
     }
     let w = a.after;
     let numbers = watch_numbers(w);
     put(&numbers, kept);
-    number
+    refused
 }
 
 // Judged before any number is cut to its field.
