@@ -46,6 +46,6 @@ keptArrival kept f clock =
 unfoldable pub keptAfter : List ℕ → List ℕ → ℕ → List ℕ
 keptAfter kept f clock = recordNumbers (arrivalOf (recordOf kept) f clock .after)
 
--- a record of six numbers that come by themselves
+-- a record of six numbers that come by themselves, for the code alone: no promise of a call cites it
 abbrev pub recordWith : ℕ → ℕ → ℕ → ℕ → ℕ → ℕ → Endpoint
 recordWith b q c e m n = record { buildout = b; rseq = q; lastclock = c; end = e; mlast = m; lastnoise = n }

@@ -48,7 +48,7 @@ pub extern "C" fn pelgrant_fresh(buildout: u8, kept: &mut [u64]) -> u8
     0
 }
 
-// What a record that is none gets: 14, and zeros elsewhere.
+// What a record that is none gets: 14, and zeros elsewhere. Both exported arrivals refuse shorter slices first.
 fn no_record(frame: &[u8], answer: &mut [u64], samples: &mut [u8]) -> u8
     requires { ⌜ (4 ≤ length (now answer)) × (128 ≤ length (now samples)) ⌝ }
     ensures number { λ r. ⌜ r ≡ 14 ⌝ }
@@ -63,6 +63,7 @@ fn no_record(frame: &[u8], answer: &mut [u64], samples: &mut [u8]) -> u8
 
 // The arrival on the six numbers of a record, which come by themselves so that none is read back from memory in another
 // width. A number that fits no octet of the record is out of every range; the numbers are then left as they came.
+// Both exported arrivals refuse shorter slices first.
 fn arrival(
     buildout: u64,
     rseq: u64,

@@ -141,7 +141,7 @@ fn terminating_numbered(n: u64) -> Terminating
     Terminating::RAlarm
 }
 
-// The watch of nine numbers that fit their fields.
+// The watch of nine numbers that fit their fields: `telling` refuses all others first.
 fn watch_of(kept: &[u64]) -> Watch
     requires { ⌜ Fits (now kept) ⌝ }
     ensures { λ r. ⌜ r ≡ watchOf (now (kept .entry)) ⌝ }

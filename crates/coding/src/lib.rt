@@ -10,7 +10,8 @@ use octets::wide;
 use refusals::refuse;
 
 // Sixteen entries of a table, a hexadecimal digit for each, the first the lowest. The compiler works such a number out
-// where the table is constant, and a look-up is then a shift: an index would copy the table first.
+// where the table is constant, and a look-up is then a shift: an index would copy the table first. The tables below meet
+// the requires.
 fn digits(table: &[u8; 32], from: usize) -> u64
     requires { ⌜ (from ≤ 16) × Digits (now table) ⌝ }
     ensures { λ r. ⌜ r ≡ digitsOf (now (table .entry)) from 16 ⌝ }
@@ -28,7 +29,7 @@ fn long(x: u8) -> u64
     x as u64
 }
 
-// A table as two such numbers.
+// A table as two such numbers. Each table has a function for them: the compiler works out only what takes no argument.
 struct Halves {
     low: u64,
     high: u64,

@@ -1,4 +1,4 @@
--- An arrival without its samples, which a call that is lent the samples' slice writes there itself.
+-- An arrival without its samples, which a call that is lent the samples' slice writes there itself. No promise of a host's call cites it.
 use Rattle.endpoint.specs.declared.Outcome.{Outcome}
 use Rattle.endpoint.specs.declared.Arrived.{Arrived}
 

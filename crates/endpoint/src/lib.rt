@@ -67,6 +67,7 @@ pub fn tell(n: u8, frame: &[u8]) -> Told
     }
 }
 
+// 128 zeros. `hear_into` has the room.
 fn quiet(samples: &mut [u8])
     requires { ⌜ 128 ≤ length (now samples) ⌝ }
     ensures { λ _. ⌜ now (samples .exit) ≡ replicate 128 0 ++ drop 128 (now (samples .entry)) ⌝ }
@@ -76,6 +77,7 @@ fn quiet(samples: &mut [u8])
     }
 }
 
+// The samples of a frame that no number refuses. `hear_into` has the room.
 fn blocks_into(frame: &[u8], samples: &mut [u8])
     requires { ⌜ (voiceRefusal (now frame) ≡ 0) × (128 ≤ length (now samples)) ⌝ }
     ensures { λ _. ⌜ now (samples .exit) ≡ samplesOf (now (frame .entry)) ++ drop 128 (now (samples .entry)) ⌝ }
@@ -88,7 +90,7 @@ fn blocks_into(frame: &[u8], samples: &mut [u8])
 }
 
 // What is heard of a frame whose refusal is n, into a slice of 128 or more: zeros where it is refused, written once. The
-// callers' proofs show that no number of the voice reader's order applies where n is 0.
+// callers' proofs show the room, and that no number of the voice reader's order applies where n is 0.
 pub fn hear_into(n: u8, frame: &[u8], samples: &mut [u8])
     requires { ⌜ (n ≡ 0 → voiceRefusal (now frame) ≡ 0) × (128 ≤ length (now samples)) ⌝ }
     ensures { λ _. ⌜ now (samples .exit) ≡ heardOf n (now (frame .entry)) .samples ++ drop 128 (now (samples .entry)) ⌝ }
@@ -150,7 +152,8 @@ fn reset_of(n: u8, frame: &[u8]) -> u8
     }
 }
 
-// The record and the clock are judged before the frame is looked at.
+// The record and the clock are judged before the frame is looked at. `decide` judges both again, for its promise is of any
+// caller; the compiler finds that it need not.
 fn decide_frame(e: Endpoint, frame: &[u8], clock: u64) -> Decision
     ensures { λ r. ⌜ r ≡ frameDecision e (now (frame .entry)) clock ⌝ }
 {
@@ -253,12 +256,17 @@ pub struct SignalHeard {
     pub hold: u8,
 }
 
+// B is judged before the frame is looked at.
 fn signal_order(buildout: u8, frame: &[u8]) -> u8
     ensures { λ r. ⌜ r ≡ signalOrder buildout (now (frame .entry)) ⌝ }
 {
     let range = refuse(buildout_bad(buildout), 14);
+    if range != 0 {
+        return range;
+    }
+    let given = signal_refusal(&*frame);
     let late = refuse(stamp_late(buildout, stamp_of(frame)), 17);
-    or_else(range, or_else(signal_refusal(frame), late))
+    or_else(given, late)
 }
 
 // The signalling reader: four bits, N/A, and the hold that the build-out gives.

@@ -63,7 +63,7 @@ fn wide(x: u8) -> u64
     x as u64
 }
 
-// Four octets from i on, and eight, as one number, the first the lowest.
+// Four octets from i on, and eight, as one number, the first the lowest. Here and below the callers keep within the slice.
 fn four(s: &[u8], i: usize) -> u64
     requires { ⌜ i + 4 ≤ length (now s) ⌝ }
     ensures { λ r. ⌜ (r < 4294967296) × ((reg : ℕ) → fcsBits 32 reg r ≡ fcsRun reg (take 4 (drop i (now (s .entry))))) ⌝ }
@@ -144,7 +144,7 @@ pub fn good(frame: &[u8], n: usize) -> bool
     low + 256 * high == check as usize
 }
 
-// A check at `at`, the low octet first. The node's proof shows the room.
+// A check at `at`, the low octet first. The node's proof and that of `seal` show the room.
 pub fn put(out: &mut [u8], check: u16, at: usize)
     requires { ⌜ at + 2 ≤ length (now out) ⌝ }
     ensures { λ _. ⌜ now (out .exit) ≡ take at (now (out .entry)) ++ (check % 256 ∷ check / 256 ∷ []) ++ drop (at + 2) (now (out .entry)) ⌝ }

@@ -133,7 +133,8 @@ fn laid_out(m: usize, c: usize, len: usize, stamp: u8, most: usize, whole: usize
     or_else(r7, or_else(r8, r9))
 }
 
-// The same of the octets and the length that they go by: numbers pass in registers, a slice through memory.
+// The same of the octets and the length that they go by: numbers pass in registers, a slice through memory,
+// so each order reads them itself.
 fn layout_by(voice: bool, len: usize, fifth: usize, stamp: u8, kind: Coding) -> u8
     ensures { λ r. ⌜ ((f : List ℕ) → voice ≡ isVoice f → len ≡ length f → fifth ≡ octet 5 f → stamp ≡ octet 6 f → kind .0 ≡ coding f → r ≡ layoutRefusal f) ⌝ }
 {

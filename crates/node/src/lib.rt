@@ -22,7 +22,7 @@ fn forward_refusal(frame: &[u8], level: usize, address: usize, room: usize) -> u
     refusals::refusal_16(room, onward::onward_length(frame, level))
 }
 
-// The frame sent on, of n octets, into a buffer with room for it. The check is worked out before the head is stored: to read
+// The frame sent on, of n octets, into a buffer with room for it: `forward` has refused all else. The check is worked out before the head is stored: to read
 // back in one piece what was stored octet by octet makes a machine wait.
 fn send_on(frame: &[u8], n: usize, level: usize, wait: usize, address: usize, out: &mut [u8])
     requires { ⌜ Sendable n level wait address (now frame) (now out) ⌝ }

@@ -45,7 +45,7 @@ pub fn next_number(n: u8) -> u8
     if 15 <= n { 1 } else { n + 1 }
 }
 
-// All of src, to the front of out, octet by octet.
+// All of src, to the front of out, octet by octet. `copy` keeps within both.
 fn copy_octets(src: &[u8], out: &mut [u8])
     requires { ⌜ length (now src) ≤ length (now out) ⌝ }
     ensures { λ _. ⌜ now (out .exit) ≡ now (src .entry) ++ drop (length (now (src .entry))) (now (out .entry)) ⌝ }
@@ -59,7 +59,7 @@ fn copy_octets(src: &[u8], out: &mut [u8])
 }
 
 // All of src, to the front of out, by sixteens: a compiler knows that a local block is apart from both, and moves it whole.
-// The node's and the origin's proofs show the room.
+// The callers' proofs show the room.
 pub fn copy(src: &[u8], out: &mut [u8])
     requires { ⌜ length (now src) ≤ length (now out) ⌝ }
     ensures { λ _. ⌜ now (out .exit) ≡ now (src .entry) ++ drop (length (now (src .entry))) (now (out .entry)) ⌝ }

@@ -13,7 +13,7 @@ use Rattle.fcs.specs.Fcs.{fcsOctets, fcsGood}
 use Rattle.fcs.proofs.SealLaws.{sealed-good}
 use Rattle.coding.specs.Coding.{sampleBits, droppableBits, frameLength, reserved}
 use Rattle.coding.proofs.CodingLaws.{d-le-s}
-use Rattle.frame.specs.Fields.{address, isVoice, fieldM, fieldC, stamp, coding, covered}
+use Rattle.frame.specs.Fields.{isVoice, fieldM, fieldC, stamp, coding, covered}
 use Rattle.frame.proofs.FrameLaws.{Passes}
 use Rattle.onward.specs.Onward.{stampAfter, dropped, onwardHead, onwardField, framed, onward}
 

@@ -1,7 +1,7 @@
 // What origin and node share: the wait, the stamp, the blocks dropped, and octets 1 to 8 of the frame that is sent on.
 ghost use mathlib.Core.Path.{_≡_};
 ghost use mathlib.Core.List.{_++_};
-ghost use Prim.Native.Nat.{ℕ, _+_, _-_, _*_, _/_, _%_, _^_, _<_, _≤_, min};
+ghost use Prim.Native.Nat.{ℕ, _+_, _-_, _*_, _/_, _%_, _^_, _<_, _≤_};
 ghost use lib.ListN.{length, drop};
 ghost use Rattle.octets.specs.Octets.{octet};
 ghost use Rattle.onward.specs.Onward.{waitOf, stampAfter, dropped, onwardHead, onward};
@@ -19,6 +19,7 @@ pub fn wait_of(from: u32, to: u32) -> usize
     std::num::wrapping_sub_u32(to, from) as usize
 }
 
+// Here and below `head` meets the requires.
 fn stamp_after(old: u8, wait: usize) -> u8
     requires { ⌜ wait < 2 ^ 32 ⌝ }
     ensures { λ r. ⌜ r ≡ stampAfter old wait ⌝ }
@@ -59,7 +60,7 @@ fn octet_5(frame: &[u8], level: usize) -> u8
     octets::less(octets::wide(frame[4]), dropped_of(frame, level)) as u8
 }
 
-// Octets 1 to 8 of the frame sent on. The node's and the origin's proofs meet the requires.
+// Octets 1 to 8 of the frame sent on. The node's proof and that of `put_head` meet the requires.
 pub fn head(frame: &[u8], level: usize, wait: usize, address: usize) -> [u8; 8]
     requires { ⌜ (8 ≤ length (now frame)) × (wait < 2 ^ 32) × (address < 8192) ⌝ }
     ensures { λ r. ⌜ r ≡ onwardHead level wait address (now (frame .entry)) ⌝ }
@@ -75,6 +76,7 @@ pub fn head(frame: &[u8], level: usize, wait: usize, address: usize) -> [u8; 8]
     [first, second, third, fourth, fifth, sixth, seventh, eighth]
 }
 
+// The same, to the front of a buffer. The origin's proofs meet the requires.
 pub fn put_head(frame: &[u8], level: usize, wait: usize, address: usize, out: &mut [u8])
     requires { ⌜ (8 ≤ length (now frame)) × (wait < 2 ^ 32) × (address < 8192) × (8 ≤ length (now out)) ⌝ }
     ensures { λ _. ⌜ now (out .exit) ≡ onwardHead level wait address (now (frame .entry)) ++ drop 8 (now (out .entry)) ⌝ }

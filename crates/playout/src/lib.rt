@@ -80,6 +80,7 @@ pub fn stamp_late(buildout: u8, stamp: u8) -> bool
     buildout < stamp
 }
 
+// `decide` has refused a clock above the limit.
 fn due_at(e: Endpoint, clock: u64, stamp: u8, seq: u8) -> u64
     requires { ⌜ clock ≤ clockLimit ⌝ }
     ensures { λ r. ⌜ r ≡ dueAt e clock stamp seq ⌝ }
@@ -124,6 +125,7 @@ fn refused(e: Endpoint, n: u8, more: u8, noise: u8) -> Decision
     }
 }
 
+// `decide` has refused what is due later.
 fn scheduled(e: Endpoint, clock: u64, seq: u8, more: u8, noise: u8, due: u64) -> Decision
     requires { ⌜ due ≤ clockLimit + 439 ⌝ }
     ensures { λ r. ⌜ r ≡ scheduledAt e clock seq more noise due ⌝ }

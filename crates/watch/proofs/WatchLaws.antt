@@ -1,5 +1,5 @@
 -- The row of an event, put together from its columns, and its answer from its fields.
-use Prim.Native.Nat.{ℕ, _+_, _-_}
+use Prim.Native.Nat.{ℕ, _+_}
 use mathlib.Core.Path.{_≡_, refl, sym}
 use lib.Dec.{leb}
 use mathlib.Core.Bool.{Bool, cond}

@@ -1,5 +1,4 @@
 -- `card_arrival::arrival` meets its contract.
-use mathlib.Core.Path.{refl}
 use native.Mathlib.Omega.{arith}
 use Rattle.endpoint.proofs.ArrivalLaws.{outcome-readable}
 use Rattle.card_arrival.specs.Kept.{recordWith}

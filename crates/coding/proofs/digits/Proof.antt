@@ -1,9 +1,8 @@
 -- `coding::digits` meets its contract: a turn adds the next digit.
-use mathlib.Core.Path.{_≡_, refl, sym, ap, _∙_}
-use Prim.Native.Nat.{ℕ, _+_, _*_, _%_, _^_, _-_, _≤_}
+use mathlib.Core.Path.{_≡_, refl, _∙_}
+use Prim.Native.Nat.{_+_, _*_, _%_, _^_, _-_, _≤_}
 use native.Mathlib.Omega.{arith}
-use borrow.Author.Needs.{needs}
-use Rattle.coding.specs.Digits.{Digits, digitsOf}
+use Rattle.coding.specs.Digits.{digitsOf}
 use Rattle.coding.proofs.CodingLaws.{digits-more, digits-fit}
 use Rattle.coding.proofs.digits.Statement.{statement}
 use Rattle.coding.proofs.digits.Tie as tie

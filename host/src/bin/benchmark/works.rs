@@ -93,8 +93,8 @@ pub fn arrive_value<C: Calls + 'static>(calls: C, number: u8, record: [u64; 6], 
     })
 }
 
-pub fn signal_read<C: Calls + 'static>(calls: C, number: u8, frame: &[u8]) -> Work {
-    repeated(number, (100, frame.to_vec(), vec![0; 3]), move |(build_out, frame, answer)| {
+pub fn signal_read<C: Calls + 'static>(calls: C, number: u8, build_out: u8, frame: &[u8]) -> Work {
+    repeated(number, (build_out, frame.to_vec(), vec![0; 3]), move |(build_out, frame, answer)| {
         calls.signal_read(*build_out, frame, answer)
     })
 }
