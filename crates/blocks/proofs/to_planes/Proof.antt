@@ -1,3 +1,4 @@
+use native.Mathlib.Omega.{arith}
 use mathlib.Core.Path.{refl}
 use mathlib.Core.Logic.{inl, inr}
 use borrow.Author.Needs.{needs}
@@ -7,40 +8,40 @@ use Rattle.blocks.proofs.to_planes.Statement.{statement}
 use Rattle.blocks.proofs.to_planes.Tie as tie
 
 riffle-requires : tie.Need-riffle-requires
-riffle-requires c κs = search needs
+riffle-requires c κs = omega arith
 
 slice-aggregate-riffle : tie.Need-slice-aggregate-riffle
-slice-aggregate-riffle c = search needs
+slice-aggregate-riffle c = omega arith
 
 riffle-requires-2 : tie.Need-riffle-requires-2
-riffle-requires-2 c κs = search needs
+riffle-requires-2 c κs = omega arith
 
 slice-aggregate-riffle-2 : tie.Need-slice-aggregate-riffle-2
-slice-aggregate-riffle-2 c = search needs
+slice-aggregate-riffle-2 c = omega arith
 
 riffle-requires-3 : tie.Need-riffle-requires-3
-riffle-requires-3 c κs = search needs
+riffle-requires-3 c κs = omega arith
 
 slice-aggregate-riffle-3 : tie.Need-slice-aggregate-riffle-3
-slice-aggregate-riffle-3 c = search needs
+slice-aggregate-riffle-3 c = omega arith
 
 riffle-requires-4 : tie.Need-riffle-requires-4
-riffle-requires-4 c κs = search needs
+riffle-requires-4 c κs = omega arith
 
 slice-aggregate-exchange : tie.Need-slice-aggregate-exchange
-slice-aggregate-exchange c = search needs
+slice-aggregate-exchange c = omega arith
 
 exchange-requires : tie.Need-exchange-requires
 exchange-requires c κs = (search needs, inr (inr (refl, refl)))
 
 slice-aggregate-exchange-2 : tie.Need-slice-aggregate-exchange-2
-slice-aggregate-exchange-2 c = search needs
+slice-aggregate-exchange-2 c = omega arith
 
 exchange-requires-2 : tie.Need-exchange-requires-2
 exchange-requires-2 c κs = (search needs, inr (inl (refl, refl)))
 
 slice-aggregate-exchange-3 : tie.Need-slice-aggregate-exchange-3
-slice-aggregate-exchange-3 c = search needs
+slice-aggregate-exchange-3 c = omega arith
 
 exchange-requires-3 : tie.Need-exchange-requires-3
 exchange-requires-3 c κs = (search needs, inl (refl, refl))

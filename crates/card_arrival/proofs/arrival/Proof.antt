@@ -3,27 +3,26 @@ use native.Mathlib.Omega.{arith}
 use Rattle.endpoint.proofs.ArrivalLaws.{outcome-readable}
 use Rattle.card_arrival.specs.Kept.{recordWith}
 use Rattle.card_arrival.proofs.KeptLaws.{fitting, by-unfit, by-outcome}
-use borrow.Author.Needs.{needs}
 use Rattle.card_arrival.proofs.arrival.Statement.{statement}
 use Rattle.card_arrival.proofs.arrival.Tie as tie
 
 slice-aggregate-put : tie.Need-slice-aggregate-put
-slice-aggregate-put c = search needs
+slice-aggregate-put c = omega arith
 
 put-requires : tie.Need-put-requires
-put-requires c κs = search needs
+put-requires c κs = omega arith
 
 no-record-requires : tie.Need-no-record-requires
-no-record-requires c κs = search needs
+no-record-requires c κs = omega arith
 
 same-length : tie.Need-same-length
-same-length c = search needs
+same-length c = omega arith
 
 same-length-2 : tie.Need-same-length-2
-same-length-2 c = search needs
+same-length-2 c = omega arith
 
 same-length-3 : tie.Need-same-length-3
-same-length-3 c = search needs
+same-length-3 c = omega arith
 
 returns : tie.Need-returns
 returns c =
@@ -49,28 +48,28 @@ judge-requires : tie.Need-judge-requires
 judge-requires c κs = tt
 
 cast-t40 : tie.Need-cast-t40
-cast-t40 c = search needs
+cast-t40 c = omega arith
 
 cast-t41 : tie.Need-cast-t41
-cast-t41 c = search needs
+cast-t41 c = omega arith
 
 cast-t42 : tie.Need-cast-t42
-cast-t42 c = search needs
+cast-t42 c = omega arith
 
 slice-aggregate-put-2 : tie.Need-slice-aggregate-put-2
-slice-aggregate-put-2 c = search needs
+slice-aggregate-put-2 c = omega arith
 
 put-requires-2 : tie.Need-put-requires-2
-put-requires-2 c κs = search needs
+put-requires-2 c κs = omega arith
 
 record-numbers-requires : tie.Need-record-numbers-requires
 record-numbers-requires c κs = tt
 
 slice-aggregate-put-3 : tie.Need-slice-aggregate-put-3
-slice-aggregate-put-3 c = search needs
+slice-aggregate-put-3 c = omega arith
 
 put-requires-3 : tie.Need-put-requires-3
-put-requires-3 c κs = search needs
+put-requires-3 c κs = omega arith
 
 hear-into-requires : tie.Need-hear-into-requires
 hear-into-requires c κs =
@@ -80,13 +79,13 @@ hear-into-requires c κs =
     (λ z. outcome-readable (recordWith (a .buildout) (a .rseq) (a .lastclock) (a .end) (a .mlast) (a .lastnoise)) (a .frame .now) (a .clock) (o .result) (o .ensures) z, start .pre .2)
 
 same-length-4 : tie.Need-same-length-4
-same-length-4 c = search needs
+same-length-4 c = omega arith
 
 same-length-5 : tie.Need-same-length-5
-same-length-5 c = search needs
+same-length-5 c = omega arith
 
 same-length-6 : tie.Need-same-length-6
-same-length-6 c = search needs
+same-length-6 c = omega arith
 
 returns-2 : tie.Need-returns-2
 returns-2 c =

@@ -2,7 +2,6 @@
 use mathlib.Core.Path.{refl}
 use native.Mathlib.Omega.{arith}
 use Rattle.card_arrival.proofs.KeptLaws.{put-none}
-use borrow.Author.Needs.{needs}
 use Rattle.card_arrival.proofs.no_record.Statement.{statement}
 use Rattle.card_arrival.proofs.no_record.Tie as tie
 
@@ -13,13 +12,13 @@ put-requires : tie.Need-put-requires
 put-requires c κs = omega arith
 
 hear-into-requires : tie.Need-hear-into-requires
-hear-into-requires c κs = search needs
+hear-into-requires c κs = omega arith
 
 same-length : tie.Need-same-length
-same-length c = search needs
+same-length c = omega arith
 
 same-length-2 : tie.Need-same-length-2
-same-length-2 c = search needs
+same-length-2 c = omega arith
 
 returns : tie.Need-returns
 returns c =

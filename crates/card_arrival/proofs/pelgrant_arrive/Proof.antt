@@ -4,7 +4,6 @@ use lib.ListN.{length}
 use Rattle.card.specs.Card.{shortTwo}
 use Rattle.card.proofs.CardLaws.{roomy-two}
 use Rattle.card_arrival.proofs.KeptLaws.{six, six-room, not-arrived, on-no-record, on-record}
-use borrow.Author.Needs.{needs}
 use Rattle.card_arrival.proofs.pelgrant_arrive.Statement.{statement}
 use Rattle.card_arrival.proofs.pelgrant_arrive.Tie as tie
 
@@ -25,10 +24,10 @@ no-record-requires c κs =
     roomy-two (length (a .answer .now)) 4 (length (a .samples .now)) 128 (c .before .before .before .before .before .short-two .ensures) (c .before .before .before .before .if1 .left)
 
 same-length : tie.Need-same-length
-same-length c = search needs
+same-length c = omega arith
 
 same-length-2 : tie.Need-same-length-2
-same-length-2 c = search needs
+same-length-2 c = omega arith
 
 returns-2 : tie.Need-returns-2
 returns-2 c =
@@ -63,13 +62,13 @@ arrival-requires c κs =
     (six-room (length (a .kept .now)) (c .before .before .before .before .before .before .before .before .before .before .record-refusal .ensures) (c .before .before .before .before .before .before .before .before .before .if2 .left), r .0, r .1)
 
 same-length-3 : tie.Need-same-length-3
-same-length-3 c = search needs
+same-length-3 c = omega arith
 
 same-length-4 : tie.Need-same-length-4
-same-length-4 c = search needs
+same-length-4 c = omega arith
 
 same-length-5 : tie.Need-same-length-5
-same-length-5 c = search needs
+same-length-5 c = omega arith
 
 returns-3 : tie.Need-returns-3
 returns-3 c =

@@ -7,7 +7,6 @@ use Rattle.refusals.proofs.RefusalLaws.{orElse-zero}
 use Rattle.card.specs.Card.{short, shortTwo}
 use Rattle.card.proofs.CardLaws.{roomy, roomy-two, both}
 use Rattle.card_arrival.proofs.KeptLaws.{six, not-arrived, on-no-record, on-record}
-use borrow.Author.Needs.{needs}
 use Rattle.card_arrival.proofs.pelgrant_arrive_value.Statement.{statement}
 use Rattle.card_arrival.proofs.pelgrant_arrive_value.Tie as tie
 
@@ -35,10 +34,10 @@ no-record-requires c κs =
     roomy-two (length (a .answer .now)) 4 (length (a .samples .now)) 128 (c .before .before .before .before .before .before .before .short-two .ensures) (none .1)
 
 same-length : tie.Need-same-length
-same-length c = search needs
+same-length c = omega arith
 
 same-length-2 : tie.Need-same-length-2
-same-length-2 c = search needs
+same-length-2 c = omega arith
 
 returns-2 : tie.Need-returns-2
 returns-2 c =
@@ -74,13 +73,13 @@ arrival-requires c κs =
     (roomy (c .before .before .before .before .before .before .before .before .before .before .before .before .before .refusal-16 .ensures) (none .0), r .0, r .1)
 
 same-length-3 : tie.Need-same-length-3
-same-length-3 c = search needs
+same-length-3 c = omega arith
 
 same-length-4 : tie.Need-same-length-4
-same-length-4 c = search needs
+same-length-4 c = omega arith
 
 same-length-5 : tie.Need-same-length-5
-same-length-5 c = search needs
+same-length-5 c = omega arith
 
 returns-3 : tie.Need-returns-3
 returns-3 c =

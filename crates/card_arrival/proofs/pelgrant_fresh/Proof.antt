@@ -1,8 +1,8 @@
+use native.Mathlib.Omega.{arith}
 use Prim.Native.Nat.{ℕ}
 use mathlib.Core.List.{List}
 use mathlib.Core.Path.{sym, ap, _∙_}
 use lib.ListN.{length}
-use borrow.Author.Needs.{needs}
 use Rattle.card.specs.Card.{put}
 use Rattle.card_arrival.specs.Kept.{recordNumbers}
 use Rattle.card.proofs.CardLaws.{within, left-alone, answered}
@@ -25,7 +25,7 @@ record-numbers-requires : tie.Need-record-numbers-requires
 record-numbers-requires c κs = tt
 
 slice-aggregate-put : tie.Need-slice-aggregate-put
-slice-aggregate-put c = search needs
+slice-aggregate-put c = omega arith
 
 put-requires : tie.Need-put-requires
 put-requires c κs = within (sym (ap length (c .before .before .record-numbers .ensures))) (six-room (length (c .before .before .before .before .before .before .before .args .kept .now)) (c .before .before .before .before .before .record-refusal .ensures) (c .before .before .before .before .if1 .left))

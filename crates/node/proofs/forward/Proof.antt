@@ -1,7 +1,7 @@
+use native.Mathlib.Omega.{arith}
 use mathlib.Core.Path.{sym, _∙_}
 use Rattle.onward.specs.Onward.{waitOf}
 use Rattle.node.proofs.ForwardLaws.{forward-refused, forward-done, sendable}
-use borrow.Author.Needs.{needs}
 use Rattle.node.proofs.forward.Statement.{statement}
 use Rattle.node.proofs.forward.Tie as tie
 
@@ -29,7 +29,7 @@ send-on-requires c κs =
     sendable (n .result) (a .level) (w .result) (a .address) (a .frame .now) (a .out .now) (sym (k .ensures (w .result)) ∙ c .before .before .before .if1 .left) (n .ensures (w .result) (a .address)) (w .ensures .1)
 
 same-length : tie.Need-same-length
-same-length c = search needs
+same-length c = omega arith
 
 returns-2 : tie.Need-returns-2
 returns-2 c =

@@ -1,54 +1,53 @@
 -- `node::send_on` meets its contract.
 use native.Mathlib.Omega.{arith}
 use Rattle.node.proofs.ForwardLaws.{assembled}
-use borrow.Author.Needs.{needs}
 use Rattle.node.proofs.send_on.Statement.{statement}
 use Rattle.node.proofs.send_on.Tie as tie
 
 head-requires : tie.Need-head-requires
-head-requires c κs = search needs
+head-requires c κs = omega arith
 
 head-requires-2 : tie.Need-head-requires-2
-head-requires-2 c κs = search needs
+head-requires-2 c κs = tt
 
 slice-aggregate-copy : tie.Need-slice-aggregate-copy
-slice-aggregate-copy c = search needs
+slice-aggregate-copy c = omega arith
 
 copy-requires : tie.Need-copy-requires
-copy-requires c κs = search needs
+copy-requires c κs = omega arith
 
 sub-copy : tie.Need-sub-copy
-sub-copy c = search needs
+sub-copy c = omega arith
 
 sub-copy-2 : tie.Need-sub-copy-2
-sub-copy-2 c = search needs
+sub-copy-2 c = omega arith
 
 part-copy-start : tie.Need-part-copy-start
-part-copy-start c = search needs
+part-copy-start c = omega arith
 
 part-copy-end : tie.Need-part-copy-end
-part-copy-end c = search needs
+part-copy-end c = omega arith
 
 sub-copy-3 : tie.Need-sub-copy-3
-sub-copy-3 c = search needs
+sub-copy-3 c = omega arith
 
 part-copy-start-2 : tie.Need-part-copy-start-2
-part-copy-start-2 c = search needs
+part-copy-start-2 c = omega arith
 
 part-copy-end-2 : tie.Need-part-copy-end-2
-part-copy-end-2 c = search needs
+part-copy-end-2 c = omega arith
 
 copy-requires-2 : tie.Need-copy-requires-2
-copy-requires-2 c κs = search needs
+copy-requires-2 c κs = omega arith
 
 sub-put : tie.Need-sub-put
-sub-put c = search needs
+sub-put c = omega arith
 
 put-requires : tie.Need-put-requires
 put-requires c κs = omega arith
 
 same-length : tie.Need-same-length
-same-length c = search needs
+same-length c = omega arith
 
 returns : tie.Need-returns
 returns c =

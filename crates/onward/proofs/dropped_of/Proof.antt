@@ -1,14 +1,13 @@
 use native.Mathlib.Omega.{arith}
 use Rattle.onward.specs.Onward.{dropped}
-use borrow.Author.Needs.{needs}
 use Rattle.onward.proofs.dropped_of.Statement.{statement}
 use Rattle.onward.proofs.dropped_of.Tie as tie
 
 field-c-requires : tie.Need-field-c-requires
-field-c-requires c κs = search needs
+field-c-requires c κs = tt
 
 lesser-requires : tie.Need-lesser-requires
-lesser-requires c κs = search needs
+lesser-requires c κs = tt
 
 returns : tie.Need-returns
 unfolding dropped

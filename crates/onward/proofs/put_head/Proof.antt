@@ -4,7 +4,6 @@ use mathlib.Core.Path.{_≡_, ap, _∙_}
 use mathlib.Core.List.{List, _++_}
 use native.Mathlib.Omega.{arith}
 use lib.ListN.{length, drop}
-use borrow.Author.Needs.{needs}
 use Rattle.onward.specs.Onward.{onwardHead}
 use Rattle.onward.proofs.put_head.Statement.{statement}
 use Rattle.onward.proofs.put_head.Tie as tie
@@ -14,16 +13,16 @@ put : (h k out x : List ℕ) → length h ≡ 8 → h ≡ k → x ≡ h ++ drop 
 put h k out x n e p = p ∙ ap (λ (m : ℕ). h ++ drop m out) n ∙ ap (λ (l : List ℕ). l ++ drop 8 out) e
 
 head-requires : tie.Need-head-requires
-head-requires c κs = search needs
+head-requires c κs = omega arith
 
 slice-aggregate-copy : tie.Need-slice-aggregate-copy
-slice-aggregate-copy c = search needs
+slice-aggregate-copy c = omega arith
 
 copy-requires : tie.Need-copy-requires
-copy-requires c κs = search needs
+copy-requires c κs = omega arith
 
 same-length : tie.Need-same-length
-same-length c = search needs
+same-length c = omega arith
 
 returns : tie.Need-returns
 returns c =

@@ -5,7 +5,6 @@ use native.Mathlib.Omega.{arith}
 use Rattle.coding.specs.Coding.{droppableBits}
 use Rattle.coding.proofs.CodingLaws.{d-le-3}
 use Rattle.origin.specs.Send.{madeHead}
-use borrow.Author.Needs.{needs}
 use Rattle.origin.proofs.made_head.Statement.{statement}
 use Rattle.origin.proofs.made_head.Tie as tie
 
@@ -27,19 +26,19 @@ add-head : tie.Need-add-head
 add-head c = omega (arith, d-le-3 (c .before .args .coding))
 
 mul-head-2 : tie.Need-mul-head-2
-mul-head-2 c = search needs
+mul-head-2 c = omega arith
 
 add-head-2 : tie.Need-add-head-2
-add-head-2 c = search needs
+add-head-2 c = omega arith
 
 mul-head-3 : tie.Need-mul-head-3
-mul-head-3 c = search needs
+mul-head-3 c = omega arith
 
 add-head-3 : tie.Need-add-head-3
-add-head-3 c = search needs
+add-head-3 c = omega arith
 
 head-requires : tie.Need-head-requires
-head-requires c κs = search needs
+head-requires c κs = omega arith
 
 returns : tie.Need-returns
 returns c =

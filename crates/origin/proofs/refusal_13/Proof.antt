@@ -1,6 +1,6 @@
+use native.Mathlib.Omega.{arith}
 use Prim.Native.Nat.{ℕ}
 use mathlib.Core.Path.{_≡_, sym, ap, _∙_}
-use borrow.Author.Needs.{needs}
 use Rattle.origin.specs.declared.Step.{Step}
 use Rattle.origin.specs.declared.Step.the-variants.{Start, Data, Stop}
 use Rattle.origin.specs.Burst.{refusal13}
@@ -12,19 +12,19 @@ of-step : (r sseq : ℕ) (step known : Step) → step ≡ known → r ≡ refusa
 of-step r sseq step known p e = e ∙ sym (ap (λ (s : Step). refusal13 s sseq) p)
 
 enum-told : tie.Need-enum-told
-enum-told c = search needs
+enum-told c = omega arith
 
 refuse-requires : tie.Need-refuse-requires
 refuse-requires c κs = tt
 
 enum-told-2 : tie.Need-enum-told-2
-enum-told-2 c = search needs
+enum-told-2 c = omega arith
 
 refuse-requires-2 : tie.Need-refuse-requires-2
 refuse-requires-2 c κs = tt
 
 enum-told-3 : tie.Need-enum-told-3
-enum-told-3 c = search needs
+enum-told-3 c = omega arith
 
 refuse-requires-3 : tie.Need-refuse-requires-3
 refuse-requires-3 c κs = tt

@@ -1,6 +1,6 @@
+use native.Mathlib.Omega.{arith}
 use Rattle.onward.specs.Onward.{waitOf}
 use Rattle.origin.proofs.SendLaws.{send-refused, none-refused, send-done}
-use borrow.Author.Needs.{needs}
 use Rattle.origin.proofs.send.Statement.{statement}
 use Rattle.origin.proofs.send.Tie as tie
 
@@ -28,7 +28,7 @@ sseq-set-requires : tie.Need-sseq-set-requires
 sseq-set-requires c κs = tt
 
 same-length : tie.Need-same-length
-same-length c = search needs
+same-length c = omega arith
 
 returns-2 : tie.Need-returns-2
 returns-2 c =

@@ -1,7 +1,7 @@
+use native.Mathlib.Omega.{arith}
 use mathlib.Core.Path.{sym, _∙_}
 use Rattle.onward.specs.Onward.{waitOf}
 use Rattle.origin.proofs.SignalLaws.{signal-refused, signal-done}
-use borrow.Author.Needs.{needs}
 use Rattle.origin.proofs.signal.Statement.{statement}
 use Rattle.origin.proofs.signal.Tie as tie
 
@@ -23,7 +23,7 @@ write-signal-requires c κs =
     (sym (c .before .before .before .signal-refusal .ensures (w .result)) ∙ c .before .before .if1 .left, w .ensures .1)
 
 same-length : tie.Need-same-length
-same-length c = search needs
+same-length c = omega arith
 
 returns-2 : tie.Need-returns-2
 returns-2 c =

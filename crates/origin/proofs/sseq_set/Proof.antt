@@ -1,3 +1,4 @@
+use native.Mathlib.Omega.{arith}
 use mathlib.Core.Path.{sym, ap, _∙_}
 use borrow.Author.Needs.{needs}
 use Rattle.origin.specs.declared.Step.{Step}
@@ -6,16 +7,16 @@ use Rattle.origin.proofs.sseq_set.Statement.{statement}
 use Rattle.origin.proofs.sseq_set.Tie as tie
 
 enum-told : tie.Need-enum-told
-enum-told c = search needs
+enum-told c = omega arith
 
 enum-told-2 : tie.Need-enum-told-2
-enum-told-2 c = search needs
+enum-told-2 c = omega arith
 
 next-number-requires : tie.Need-next-number-requires
 next-number-requires c κs = tt
 
 enum-told-3 : tie.Need-enum-told-3
-enum-told-3 c = search needs
+enum-told-3 c = omega arith
 
 returns : tie.Need-returns
 returns c = search needs

@@ -4,7 +4,6 @@ use lib.ListN.{length}
 use Rattle.origin.specs.Signal.{signalHead}
 use Rattle.origin.proofs.SendLaws.{inside-low}
 use Rattle.origin.proofs.SignalLaws.{SignalTaken, signal-taken, signal-length, signal-eight, signal-in}
-use borrow.Author.Needs.{needs}
 use Rattle.origin.proofs.write_signal.Statement.{statement}
 use Rattle.origin.proofs.write_signal.Tie as tie
 
@@ -17,7 +16,7 @@ head-requires c κs =
     inside-low (s .args .address) (known s .inside)
 
 slice-aggregate-put-head : tie.Need-slice-aggregate-put-head
-slice-aggregate-put-head c = search needs
+slice-aggregate-put-head c = omega arith
 
 put-head-requires : tie.Need-put-head-requires
 unfolding signalHead
@@ -33,7 +32,7 @@ seal-requires c κs =
     omega arith
 
 same-length : tie.Need-same-length
-same-length c = search needs
+same-length c = omega arith
 
 returns : tie.Need-returns
 unfolding signalHead

@@ -6,7 +6,6 @@ use Rattle.coding.proofs.CodingLaws.{s-le-8, not-reserved}
 use Rattle.blocks.proofs.BlocksLaws.{fit-length}
 use Rattle.origin.proofs.SendLaws.{inside-low, head-eight, SendTaken, send-taken, enough-room, sent-length, made-by-step, written-in}
 use Rattle.origin.proofs.BurstLaws.{sequence-le, more-le}
-use borrow.Author.Needs.{needs}
 use Rattle.origin.proofs.write_voice.Statement.{statement}
 use Rattle.origin.proofs.write_voice.Tie as tie
 
@@ -39,7 +38,7 @@ made-head-requires c κs =
     (not-reserved (a .coding) (k .known) .1, rw (c .before .more-sent .ensures) (more-le (a .step)), rw (c .sequence-sent .ensures) (sequence-le (a .step) (a .sseq) (k .in-record)), k .quiet, inside-low (a .address) (k .inside))
 
 slice-aggregate-put-head : tie.Need-slice-aggregate-put-head
-slice-aggregate-put-head c = search needs
+slice-aggregate-put-head c = omega arith
 
 put-head-requires : tie.Need-put-head-requires
 put-head-requires c κs =
@@ -58,10 +57,10 @@ pack-requires c κs =
     (omega (arith, enough-room (a .sseq) (a .step) (a .coding) (a .noise) (a .samples .now) (a .level) (a .wait) (a .address) (length (a .out .now)) k), fit-length (a .samples .now) _ (k .fit), omega arith, omega (arith, s-le-8 (a .coding)))
 
 mul-seal : tie.Need-mul-seal
-mul-seal c = search needs
+mul-seal c = omega arith
 
 add-seal : tie.Need-add-seal
-add-seal c = search needs
+add-seal c = omega arith
 
 seal-requires : tie.Need-seal-requires
 seal-requires c κs =
@@ -70,16 +69,16 @@ seal-requires c κs =
     omega (arith, enough-room (a .sseq) (a .step) (a .coding) (a .noise) (a .samples .now) (a .level) (a .wait) (a .address) (length (a .out .now)) (known s))
 
 mul-result : tie.Need-mul-result
-mul-result c = search needs
+mul-result c = omega arith
 
 add-result : tie.Need-add-result
-add-result c = search needs
+add-result c = omega arith
 
 add-result-2 : tie.Need-add-result-2
-add-result-2 c = search needs
+add-result-2 c = omega arith
 
 same-length : tie.Need-same-length
-same-length c = search needs
+same-length c = omega arith
 
 returns : tie.Need-returns
 returns c =

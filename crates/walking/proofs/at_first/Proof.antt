@@ -1,9 +1,8 @@
-use borrow.Author.Needs.{needs}
 use Rattle.walking.proofs.at_first.Statement.{statement}
 use Rattle.walking.proofs.at_first.Tie as tie
 
 fresh-requires : tie.Need-fresh-requires
-fresh-requires c κs = search needs
+fresh-requires c κs = tt
 
 returns : tie.Need-returns
 returns c = cc

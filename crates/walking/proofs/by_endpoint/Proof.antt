@@ -10,7 +10,6 @@ use Rattle.walking.specs.declared.State.{State}
 use Rattle.walking.specs.Walk.{four, told, arriving, byEndpoint}
 use Rattle.walking.specs.Held.{carriedOf}
 use Rattle.walking.proofs.OutcomeLaws.{take-within}
-use borrow.Author.Needs.{needs}
 use Rattle.walking.proofs.by_endpoint.Statement.{statement}
 use Rattle.walking.proofs.by_endpoint.Tie as tie
 
@@ -34,37 +33,37 @@ arrived state whole n clock buffer q t pn pb pl pc pq pt =
     }) e
 
 four-octets-requires : tie.Need-four-octets-requires
-four-octets-requires c κs = search needs
+four-octets-requires c κs = omega arith
 
 cast-clock : tie.Need-cast-clock
-cast-clock c = search needs
+cast-clock c = omega arith
 
 lesser-requires : tie.Need-lesser-requires
-lesser-requires c κs = search needs
+lesser-requires c κs = tt
 
 sized-requires : tie.Need-sized-requires
-sized-requires c κs = search needs
+sized-requires c κs = tt
 
 array-share-prefix-frame : tie.Need-array-share-prefix-frame
-array-share-prefix-frame c = search needs
+array-share-prefix-frame c = omega arith
 
 slice-aggregate-arrive-value : tie.Need-slice-aggregate-arrive-value
 slice-aggregate-arrive-value c = sym (length-take-le _ _ (omega arith))
 
 arrive-value-requires : tie.Need-arrive-value-requires
-arrive-value-requires c κs = search needs
+arrive-value-requires c κs = tt
 
 array-share-prefix-frame-2 : tie.Need-array-share-prefix-frame-2
-array-share-prefix-frame-2 c = search needs
+array-share-prefix-frame-2 c = omega arith
 
 slice-aggregate-tell : tie.Need-slice-aggregate-tell
 slice-aggregate-tell c = sym (length-take-le _ _ (omega arith))
 
 cast-tell : tie.Need-cast-tell
-cast-tell c = search needs
+cast-tell c = omega arith
 
 tell-requires : tie.Need-tell-requires
-tell-requires c κs = search needs
+tell-requires c κs = omega arith
 
 returns : tie.Need-returns
 returns c =

@@ -13,7 +13,6 @@ use Rattle.walking.specs.declared.State.{State}
 use Rattle.walking.specs.Walk.{four, forwarding, room, byNode}
 use Rattle.walking.specs.Held.{carriedOf}
 use Rattle.walking.proofs.OutcomeLaws.{take-within}
-use borrow.Author.Needs.{needs}
 use Rattle.walking.proofs.by_node.Statement.{statement}
 use Rattle.walking.proofs.by_node.Tie as tie
 
@@ -30,34 +29,34 @@ sent-on state whole level wait n buffer pl pw pn pb size sent x es ex =
     (es ∙ rw (pl, pw, w, size), ex ∙ rw (pl, pw, w, size, pb))
 
 at-requires : tie.Need-at-requires
-at-requires c κs = search needs
+at-requires c κs = tt
 
 cast-level : tie.Need-cast-level
-cast-level c = search needs
+cast-level c = omega arith
 
 four-octets-requires : tie.Need-four-octets-requires
-four-octets-requires c κs = search needs
+four-octets-requires c κs = omega arith
 
 lesser-requires : tie.Need-lesser-requires
-lesser-requires c κs = search needs
+lesser-requires c κs = tt
 
 sized-requires : tie.Need-sized-requires
-sized-requires c κs = search needs
+sized-requires c κs = tt
 
 array-share-prefix-last : tie.Need-array-share-prefix-last
-array-share-prefix-last c = search needs
+array-share-prefix-last c = omega arith
 
 slice-aggregate-forward : tie.Need-slice-aggregate-forward
 slice-aggregate-forward c = sym (length-take-le _ _ (omega arith))
 
 slice-aggregate-forward-2 : tie.Need-slice-aggregate-forward-2
-slice-aggregate-forward-2 c = search needs
+slice-aggregate-forward-2 c = omega arith
 
 forward-requires : tie.Need-forward-requires
-forward-requires c κs = search needs
+forward-requires c κs = tt
 
 made-requires : tie.Need-made-requires
-made-requires c κs = search needs
+made-requires c κs = tt
 
 returns : tie.Need-returns
 unfolding byNode

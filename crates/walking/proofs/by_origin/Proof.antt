@@ -1,3 +1,4 @@
+use native.Mathlib.Omega.{arith}
 use Prim.Native.Nat.{ℕ, _-_, min}
 use mathlib.Core.Path.{_≡_, ap, _∙_}
 use mathlib.Core.List.{List}
@@ -13,7 +14,6 @@ use Rattle.walking.specs.declared.State.{State}
 use Rattle.walking.specs.Walk.{four, sending, room, made, byOrigin}
 use Rattle.walking.specs.Held.{carriedOf}
 use Rattle.walking.proofs.OutcomeLaws.{tail-within}
-use borrow.Author.Needs.{needs}
 use Rattle.walking.proofs.by_origin.Statement.{statement}
 use Rattle.walking.proofs.by_origin.Tie as tie
 
@@ -35,55 +35,55 @@ sent-out state whole number coding noise level wait start step buffer pm ps pt p
     (es ∙ rw (ps, pm, pt, pn, pl, pw, v, size), ex ∙ rw (ps, pm, pt, pn, pl, pw, v, size, pb), eq ∙ rw (ps, pm, pt, pn, pl, pw, v, size))
 
 at-requires : tie.Need-at-requires
-at-requires c κs = search needs
+at-requires c κs = tt
 
 step-numbered-requires : tie.Need-step-numbered-requires
-step-numbered-requires c κs = search needs
+step-numbered-requires c κs = tt
 
 at-requires-2 : tie.Need-at-requires-2
-at-requires-2 c κs = search needs
+at-requires-2 c κs = tt
 
 cast-coding : tie.Need-cast-coding
-cast-coding c = search needs
+cast-coding c = omega arith
 
 at-requires-3 : tie.Need-at-requires-3
-at-requires-3 c κs = search needs
+at-requires-3 c κs = tt
 
 cast-noise : tie.Need-cast-noise
-cast-noise c = search needs
+cast-noise c = omega arith
 
 at-requires-4 : tie.Need-at-requires-4
-at-requires-4 c κs = search needs
+at-requires-4 c κs = tt
 
 cast-level : tie.Need-cast-level
-cast-level c = search needs
+cast-level c = omega arith
 
 four-octets-requires : tie.Need-four-octets-requires
-four-octets-requires c κs = search needs
+four-octets-requires c κs = omega arith
 
 lesser-requires : tie.Need-lesser-requires
-lesser-requires c κs = search needs
+lesser-requires c κs = tt
 
 sized-requires : tie.Need-sized-requires
-sized-requires c κs = search needs
+sized-requires c κs = tt
 
 sub-send : tie.Need-sub-send
-sub-send c = search needs
+sub-send c = omega arith
 
 part-send-start : tie.Need-part-send-start
-part-send-start c = search needs
+part-send-start c = omega arith
 
 part-send-end : tie.Need-part-send-end
-part-send-end c = search needs
+part-send-end c = omega arith
 
 slice-aggregate-send : tie.Need-slice-aggregate-send
-slice-aggregate-send c = search needs
+slice-aggregate-send c = omega arith
 
 send-requires : tie.Need-send-requires
-send-requires c κs = search needs
+send-requires c κs = tt
 
 made-requires : tie.Need-made-requires
-made-requires c κs = search needs
+made-requires c κs = tt
 
 returns : tie.Need-returns
 unfolding byOrigin

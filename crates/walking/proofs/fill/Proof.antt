@@ -10,7 +10,7 @@ use Rattle.walking.proofs.fill.Statement.{statement}
 use Rattle.walking.proofs.fill.Tie as tie
 
 sub-if1 : tie.Need-sub-if1
-sub-if1 c = search needs
+sub-if1 c = omega arith
 
 returns : tie.Need-returns
 returns c =
@@ -25,40 +25,40 @@ returns c =
     }
 
 move-front-requires : tie.Need-move-front-requires
-move-front-requires c κs = search needs
+move-front-requires c κs = omega arith
 
 sub-left : tie.Need-sub-left
-sub-left c = search needs
+sub-left c = omega arith
 
 sub-read : tie.Need-sub-read
-sub-read c = search needs
+sub-read c = omega arith
 
 part-read-start : tie.Need-part-read-start
-part-read-start c = search needs
+part-read-start c = omega arith
 
 part-read-end : tie.Need-part-read-end
-part-read-end c = search needs
+part-read-end c = omega arith
 
 read-requires : tie.Need-read-requires
-read-requires c κs = search needs
+read-requires c κs = tt
 
 sub-count : tie.Need-sub-count
-sub-count c = search needs
+sub-count c = omega arith
 
 part-count-start : tie.Need-part-count-start
-part-count-start c = search needs
+part-count-start c = omega arith
 
 part-count-end : tie.Need-part-count-end
-part-count-end c = search needs
+part-count-end c = omega arith
 
 count-requires : tie.Need-count-requires
-count-requires c κs = search needs
+count-requires c κs = tt
 
 add-t10 : tie.Need-add-t10
-add-t10 c = search needs
+add-t10 c = omega arith
 
 same-length : tie.Need-same-length
-same-length c = search needs
+same-length c = omega arith
 
 returns-2 : tie.Need-returns-2
 returns-2 c =

@@ -6,7 +6,7 @@ use Rattle.walking.proofs.flush.Statement.{statement}
 use Rattle.walking.proofs.flush.Tie as tie
 
 sub-if1 : tie.Need-sub-if1
-sub-if1 c = search needs
+sub-if1 c = omega arith
 
 returns : tie.Need-returns
 returns c = search needs
@@ -15,7 +15,7 @@ slice-aggregate-write-all : tie.Need-slice-aggregate-write-all
 slice-aggregate-write-all c = sym (length-take-le _ _ (omega arith))
 
 write-all-requires : tie.Need-write-all-requires
-write-all-requires c κs = search needs
+write-all-requires c κs = tt
 
 returns-2 : tie.Need-returns-2
 returns-2 c = search needs

@@ -1,3 +1,4 @@
+use native.Mathlib.Omega.{arith}
 use Prim.Native.Nat.{ℕ, _+_}
 use mathlib.Core.Path.{_≡_, ap, ap₂, _∙_}
 use mathlib.Core.Bool.{Bool, _&&_}
@@ -6,7 +7,6 @@ use lib.Dec.{leb}
 use lib.ListN.{length}
 use Rattle.octets.specs.Octets.{octet}
 use Rattle.walking.specs.Walk.{following, kind, allowed, legal}
-use borrow.Author.Needs.{needs}
 use Rattle.walking.proofs.legal.Statement.{statement}
 use Rattle.walking.proofs.legal.Tie as tie
 
@@ -29,7 +29,7 @@ allowed-requires : tie.Need-allowed-requires
 allowed-requires c κs = tt
 
 add-result : tie.Need-add-result
-add-result c = search needs
+add-result c = omega arith
 
 returns : tie.Need-returns
 returns c =

@@ -15,7 +15,6 @@ use Rattle.walking.specs.declared.State.{State}
 use Rattle.walking.specs.Walk.{told, made}
 use Rattle.walking.specs.Held.{carriedOf}
 use Rattle.walking.proofs.OutcomeLaws.{take-within, told-frame, kept-frame}
-use borrow.Author.Needs.{needs}
 use Rattle.walking.proofs.made.Statement.{statement}
 use Rattle.walking.proofs.made.Tie as tie
 
@@ -39,28 +38,28 @@ whole-of state kind sseq sent buffer k n last t size pk pn pl pt refusal written
     ap₂ (λ (x l : List ℕ). record { carried = record { number = state .number; sseq = sseq; endpoint = state .endpoint; frame = x }; told = l }) f (u ∙ w)
 
 pick-requires : tie.Need-pick-requires
-pick-requires c κs = search needs
+pick-requires c κs = tt
 
 lesser-requires : tie.Need-lesser-requires
-lesser-requires c κs = search needs
+lesser-requires c κs = tt
 
 array-share-prefix-frame : tie.Need-array-share-prefix-frame
-array-share-prefix-frame c = search needs
+array-share-prefix-frame c = omega arith
 
 slice-aggregate-field-c : tie.Need-slice-aggregate-field-c
 slice-aggregate-field-c c = sym (length-take-le _ _ (omega arith))
 
 field-c-requires : tie.Need-field-c-requires
-field-c-requires c κs = search needs
+field-c-requires c κs = tt
 
 array-share-prefix-frame-2 : tie.Need-array-share-prefix-frame-2
-array-share-prefix-frame-2 c = search needs
+array-share-prefix-frame-2 c = omega arith
 
 slice-aggregate-tell : tie.Need-slice-aggregate-tell
 slice-aggregate-tell c = sym (length-take-le _ _ (omega arith))
 
 tell-requires : tie.Need-tell-requires
-tell-requires c κs = search needs
+tell-requires c κs = omega arith
 
 returns : tie.Need-returns
 returns c =

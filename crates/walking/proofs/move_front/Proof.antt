@@ -4,7 +4,6 @@ use mathlib.Core.List.{_++_}
 use native.Mathlib.Omega.{arith}
 use lib.ListN.{length, take, drop, length-set}
 use Rattle.walking.proofs.StreamLaws.{moved-more}
-use borrow.Author.Needs.{needs}
 use Rattle.walking.proofs.move_front.Statement.{statement}
 use Rattle.walking.proofs.move_front.Tie as tie
 
@@ -16,25 +15,25 @@ abbrev μ-loop : tie.MeasureT-loop
 μ-loop buffer₀ from to n i₀ buffer i = n - i
 
 sub-n : tie.Need-sub-n Inv-loop μ-loop
-sub-n c = search needs
+sub-n c = omega arith
 
 loop-holds : tie.Need-loop-holds Inv-loop μ-loop
 loop-holds c = (refl, omega arith, refl, refl)
 
 add-buffer : tie.Need-add-buffer Inv-loop μ-loop
-add-buffer c = search needs
+add-buffer c = omega arith
 
 slice-read-buffer : tie.Need-slice-read-buffer Inv-loop μ-loop
-slice-read-buffer c = search needs
+slice-read-buffer c = omega arith
 
 slice-write-buffer : tie.Need-slice-write-buffer Inv-loop μ-loop
-slice-write-buffer c = search needs
+slice-write-buffer c = omega arith
 
 add-i : tie.Need-add-i Inv-loop μ-loop
-add-i c = search needs
+add-i c = omega arith
 
 loop-less : tie.Need-loop-less Inv-loop μ-loop
-loop-less c = search needs
+loop-less c = omega arith
 
 loop-again : tie.Need-loop-again Inv-loop μ-loop
 loop-again c =

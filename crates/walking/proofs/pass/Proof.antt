@@ -6,7 +6,6 @@ use borrow.Author.Tests.{not-true, not-false}
 use Rattle.walking.proofs.StreamLaws.{Run, ready-known, run-start, run-step, run-stop, run-over, taken-here, within-then, collected-then}
 use Rattle.walking.proofs.WalkLaws.{taken-some}
 use Rattle.walking.specs.Held.{carriedOf}
-use borrow.Author.Needs.{needs}
 use Rattle.walking.proofs.pass.Statement.{statement}
 use Rattle.walking.proofs.pass.Tie as tie
 
@@ -23,22 +22,22 @@ loop-holds c =
     (refl, run-start (a .input .now) (a .out .now) (a .flow .have) (a .flow .from) (a .flow .end) (a .flow .ended) (carriedOf (a .flow .state)) (omega arith) (omega arith) (omega arith))
 
 sub-ready : tie.Need-sub-ready Inv-loop μ-loop
-sub-ready c = search needs
+sub-ready c = omega arith
 
 sub-ready-2 : tie.Need-sub-ready-2 Inv-loop μ-loop
-sub-ready-2 c = search needs
+sub-ready-2 c = omega arith
 
 ready-requires : tie.Need-ready-requires Inv-loop μ-loop
-ready-requires c κs = search needs
+ready-requires c κs = tt
 
 sub-step : tie.Need-sub-step Inv-loop μ-loop
-sub-step c = search needs
+sub-step c = omega arith
 
 part-step-start : tie.Need-part-step-start Inv-loop μ-loop
-part-step-start c = search needs
+part-step-start c = omega arith
 
 part-step-end : tie.Need-part-step-end Inv-loop μ-loop
-part-step-end c = search needs
+part-step-end c = omega arith
 
 step-requires : tie.Need-step-requires Inv-loop μ-loop
 step-requires c κs =

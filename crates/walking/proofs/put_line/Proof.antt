@@ -5,7 +5,6 @@ use lib.ListN.{length, drop}
 use lib.Seq.{sets}
 use Rattle.walking.specs.Text.{line}
 use Rattle.walking.proofs.TextLaws.{line-none, ends-then, holds-then}
-use borrow.Author.Needs.{needs}
 use Rattle.walking.proofs.put_line.Statement.{statement}
 use Rattle.walking.proofs.put_line.Tie as tie
 
@@ -32,28 +31,28 @@ loop-holds : tie.Need-loop-holds Inv-loop μ-loop
 loop-holds c = (refl, omega arith, refl, omega arith, refl, refl)
 
 sub-after-number : tie.Need-sub-after-number Inv-loop μ-loop
-sub-after-number c = search needs
+sub-after-number c = omega arith
 
 sub-after-number-2 : tie.Need-sub-after-number-2 Inv-loop μ-loop
-sub-after-number-2 c = search needs
+sub-after-number-2 c = omega arith
 
 after-number-requires : tie.Need-after-number-requires Inv-loop μ-loop
-after-number-requires c κs = search needs
+after-number-requires c κs = tt
 
 mul-put-number : tie.Need-mul-put-number Inv-loop μ-loop
-mul-put-number c = search needs
+mul-put-number c = omega arith
 
 shared-slice-read-put-number : tie.Need-shared-slice-read-put-number Inv-loop μ-loop
-shared-slice-read-put-number c = search needs
+shared-slice-read-put-number c = omega arith
 
 put-number-requires : tie.Need-put-number-requires Inv-loop μ-loop
-put-number-requires c κs = search needs
+put-number-requires c κs = omega arith
 
 add-i : tie.Need-add-i Inv-loop μ-loop
-add-i c = search needs
+add-i c = omega arith
 
 loop-less : tie.Need-loop-less Inv-loop μ-loop
-loop-less c = search needs
+loop-less c = omega arith
 
 loop-again : tie.Need-loop-again Inv-loop μ-loop
 loop-again c =

@@ -7,13 +7,13 @@ use Rattle.walking.proofs.put_number.Statement.{statement}
 use Rattle.walking.proofs.put_number.Tie as tie
 
 put-digits-requires : tie.Need-put-digits-requires
-put-digits-requires c κs = search needs
+put-digits-requires c κs = omega arith
 
 slice-write-out : tie.Need-slice-write-out
-slice-write-out c = search needs
+slice-write-out c = omega arith
 
 add-result : tie.Need-add-result
-add-result c = search needs
+add-result c = omega arith
 
 same-length : tie.Need-same-length
 same-length c = search needs

@@ -5,42 +5,41 @@ use mathlib.Core.List.{[], _∷_}
 use lib.ListN.{length-set}
 use Rattle.walking.specs.Text.{stopLine}
 use Rattle.walking.proofs.TextLaws.{put-text, put-append}
-use borrow.Author.Needs.{needs}
 use Rattle.walking.proofs.put_stop.Statement.{statement}
 use Rattle.walking.proofs.put_stop.Tie as tie
 
 put-number-requires : tie.Need-put-number-requires
-put-number-requires c κs = search needs
+put-number-requires c κs = omega arith
 
 slice-write-out : tie.Need-slice-write-out
 slice-write-out c = omega (arith, c .before .before .put-number .kept .1 .1 .0)
 
 add-out : tie.Need-add-out
-add-out c = search needs
+add-out c = omega arith
 
 slice-write-out-2 : tie.Need-slice-write-out-2
 slice-write-out-2 c = simp length-set (omega (arith, c .before .before .put-number .kept .1 .1 .0))
 
 add-out-2 : tie.Need-add-out-2
-add-out-2 c = search needs
+add-out-2 c = omega arith
 
 slice-write-out-3 : tie.Need-slice-write-out-3
 slice-write-out-3 c = simp length-set (omega (arith, c .before .before .put-number .kept .1 .1 .0))
 
 add-out-3 : tie.Need-add-out-3
-add-out-3 c = search needs
+add-out-3 c = omega arith
 
 slice-write-out-4 : tie.Need-slice-write-out-4
 slice-write-out-4 c = simp length-set (omega (arith, c .before .before .put-number .kept .1 .1 .0))
 
 add-out-4 : tie.Need-add-out-4
-add-out-4 c = search needs
+add-out-4 c = omega arith
 
 slice-write-out-5 : tie.Need-slice-write-out-5
 slice-write-out-5 c = simp length-set (omega (arith, c .before .before .put-number .kept .1 .1 .0))
 
 add-result : tie.Need-add-result
-add-result c = search needs
+add-result c = omega arith
 
 same-length : tie.Need-same-length
 same-length c = simp length-set (c .before .before .put-number .kept .1 .1 .0)

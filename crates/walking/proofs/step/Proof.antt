@@ -11,7 +11,6 @@ use Rattle.walking.specs.Walk.{Carried, Outcome, following, legal, first
 use Rattle.walking.specs.Held.{carriedOf, SevenAtMost, outcomeOf}
 use Rattle.walking.proofs.TextLaws.{put-wider}
 use Rattle.walking.proofs.WalkLaws.{step-taken, step-stopped, legal-whole}
-use borrow.Author.Needs.{needs}
 use Rattle.walking.proofs.step.Statement.{statement}
 use Rattle.walking.proofs.step.Tie as tie
 
@@ -27,16 +26,16 @@ room-for : (at : ℕ) (t : Told) (size : ℕ) → SevenAtMost t → at + 147 ≤
 room-for at t size h r = rw (length-take-le (t .count) (t .numbers) (few-told t h)) (omega (arith, h .0))
 
 add-number : tie.Need-add-number
-add-number c = search needs
+add-number c = omega arith
 
 legal-requires : tie.Need-legal-requires
-legal-requires c κs = search needs
+legal-requires c κs = tt
 
 put-stop-requires : tie.Need-put-stop-requires
-put-stop-requires c κs = search needs
+put-stop-requires c κs = omega arith
 
 same-length : tie.Need-same-length
-same-length c = search needs
+same-length c = omega arith
 
 returns : tie.Need-returns
 returns c =
@@ -46,13 +45,13 @@ returns c =
     (record { carried = refl; taken = refl; going = refl; line = put-wider (c .before .before .put-stop .ensures) (omega arith) })
 
 two-octets-requires : tie.Need-two-octets-requires
-two-octets-requires c κs = search needs
+two-octets-requires c κs = tt
 
 add-taken : tie.Need-add-taken
-add-taken c = search needs
+add-taken c = omega arith
 
 with-number-requires : tie.Need-with-number-requires
-with-number-requires c κs = search needs
+with-number-requires c κs = omega arith
 
 slice-aggregate-take-record : tie.Need-slice-aggregate-take-record
 slice-aggregate-take-record c =
@@ -61,10 +60,10 @@ slice-aggregate-take-record c =
     sym (length-take-le _ _ (omega (arith, legal-whole r l)))
 
 take-record-requires : tie.Need-take-record-requires
-take-record-requires c κs = search needs
+take-record-requires c κs = tt
 
 array-share-prefix-numbers : tie.Need-array-share-prefix-numbers
-array-share-prefix-numbers c = search needs
+array-share-prefix-numbers c = omega arith
 
 slice-aggregate-put-line : tie.Need-slice-aggregate-put-line
 slice-aggregate-put-line c =
@@ -78,7 +77,7 @@ put-line-requires c κs =
     room-for (s .args .at) (t .result .told) (length (s .args .out .now)) (t .ensures .1) (s .pre .1)
 
 same-length-2 : tie.Need-same-length-2
-same-length-2 c = search needs
+same-length-2 c = omega arith
 
 returns-2 : tie.Need-returns-2
 returns-2 c =

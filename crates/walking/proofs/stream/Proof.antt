@@ -4,7 +4,6 @@ use Prim.Native.Nat.{_≤_}
 use mathlib.Core.Path.{_≡_, _∙_}
 use native.Mathlib.Omega.{arith}
 use lib.ListN.{length}
-use borrow.Author.Needs.{needs}
 use Rattle.walking.proofs.stream.Statement.{statement}
 use Rattle.walking.proofs.stream.Tie as tie
 
@@ -20,19 +19,19 @@ abbrev μ-loop : tie.MeasureT-loop
 μ-loop input buffer₀ out₀ flow₀ turns₀ buffer out flow turns = turns
 
 at-first-requires : tie.Need-at-first-requires Inv-loop μ-loop
-at-first-requires c κs = search needs
+at-first-requires c κs = tt
 
 loop-holds : tie.Need-loop-holds Inv-loop μ-loop
-loop-holds c = search needs
+loop-holds c = omega arith
 
 fill-requires : tie.Need-fill-requires Inv-loop μ-loop
-fill-requires c κs = search needs
+fill-requires c κs = omega arith
 
 pass-requires : tie.Need-pass-requires Inv-loop μ-loop
-pass-requires c κs = search needs
+pass-requires c κs = omega arith
 
 flush-requires : tie.Need-flush-requires Inv-loop μ-loop
-flush-requires c κs = search needs
+flush-requires c κs = omega arith
 
 sub-turns : tie.Need-sub-turns Inv-loop μ-loop
 sub-turns c = ltb-true 0 (c .before .before .before .before .before .before .before .before .before .before .before .before .before .loop .turns) (and-true _ _ (c .before .before .before .before .before .before .before .before .before .before .before .if1 .taken) .0)
@@ -53,13 +52,13 @@ loop-again c =
     )
 
 same-length : tie.Need-same-length Inv-loop μ-loop
-same-length c = search needs
+same-length c = omega arith
 
 same-length-2 : tie.Need-same-length-2 Inv-loop μ-loop
-same-length-2 c = search needs
+same-length-2 c = omega arith
 
 returns : tie.Need-returns Inv-loop μ-loop
-returns c = search needs
+returns c = omega arith
 
 pub stream-spec : {M : Type 1} → statement M
 stream-spec =

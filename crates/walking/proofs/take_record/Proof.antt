@@ -3,15 +3,14 @@ use mathlib.Core.Bool.{true, false}
 use lib.Dec.{eqb}
 use borrow.Author.Tests.{eq-eqb, ne-eqb}
 use Rattle.walking.specs.Walk.{kind, outcome}
-use borrow.Author.Needs.{needs}
 use Rattle.walking.proofs.take_record.Statement.{statement}
 use Rattle.walking.proofs.take_record.Tie as tie
 
 two-octets-requires : tie.Need-two-octets-requires
-two-octets-requires c κs = search needs
+two-octets-requires c κs = tt
 
 by-origin-requires : tie.Need-by-origin-requires
-by-origin-requires c κs = search needs
+by-origin-requires c κs = tt
 
 returns : tie.Need-returns
 unfolding outcome
@@ -20,10 +19,10 @@ returns c =
     (rw k (c .by-origin .ensures .0), c .by-origin .ensures .1)
 
 by-node-requires : tie.Need-by-node-requires
-by-node-requires c κs = search needs
+by-node-requires c κs = tt
 
 by-endpoint-requires : tie.Need-by-endpoint-requires
-by-endpoint-requires c κs = search needs
+by-endpoint-requires c κs = tt
 
 returns-2 : tie.Need-returns-2
 unfolding outcome

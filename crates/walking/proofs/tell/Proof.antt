@@ -5,18 +5,17 @@ use native.Mathlib.Omega.{arith}
 use lib.Dec.{eqb}
 use lib.ListN.{length, take}
 use Rattle.walking.proofs.OutcomeLaws.{told-first, few}
-use borrow.Author.Needs.{needs}
 use Rattle.walking.proofs.tell.Statement.{statement}
 use Rattle.walking.proofs.tell.Tie as tie
 
 pick-requires : tie.Need-pick-requires
-pick-requires c κs = search needs
+pick-requires c κs = tt
 
 stamp-of-requires : tie.Need-stamp-of-requires
-stamp-of-requires c κs = search needs
+stamp-of-requires c κs = tt
 
 cast-t15 : tie.Need-cast-t15
-cast-t15 c = search needs
+cast-t15 c = omega arith
 
 returns : tie.Need-returns
 returns c =

@@ -4,7 +4,6 @@ use mathlib.Core.List.{List}
 use native.Mathlib.Omega.{arith}
 use lib.ListN.{getD}
 use Rattle.walking.specs.Walk.{two}
-use borrow.Author.Needs.{needs}
 use Rattle.walking.proofs.two_octets.Statement.{statement}
 use Rattle.walking.proofs.two_octets.Tie as tie
 
@@ -25,10 +24,10 @@ at-requires-2 : tie.Need-at-requires-2
 at-requires-2 c κs = tt
 
 mul-result : tie.Need-mul-result
-mul-result c = search needs
+mul-result c = omega arith
 
 add-result : tie.Need-add-result
-add-result c = search needs
+add-result c = omega arith
 
 returns : tie.Need-returns
 returns c =
