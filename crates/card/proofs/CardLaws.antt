@@ -7,7 +7,7 @@ use native.Mathlib.Omega.{arith}
 use lib.Dec.{eqb}
 use lib.ListN.{length, drop, set}
 use borrow.Author.Tests.{ltb-false, eqb-true, not-false}
-use Rattle.refusals.specs.Refusals.{_orElse_, refuse, refusal16}
+use Rattle.refusals.specs.Refusals.{_orElse_, ifTaken, refuse, refusal16}
 use Rattle.refusals.proofs.RefusalLaws.{orElse-zero, orElse-take, orElse-pass, refuse-zero, refused-is, done-is}
 use Rattle.card.specs.Card.{put, written}
 
@@ -63,3 +63,12 @@ module _ (flat r number : ℕ) (numbers slot : List ℕ) (e : r ≡ flat) where
   pub called : r ≡ 0 → (k : ℕ) (x : List ℕ) {y : List ℕ} → k ≡ number → x ≡ put y slot → y ≡ numbers
       → (k ≡ flat orElse number) × (x ≡ written flat numbers slot)
   called z k x n p q = (orElse-pass flat number r k e z n, answered-by flat r numbers slot e z x p q)
+
+-- and that besides leaves something in a buffer that is lent
+module _ (flat r number : ℕ) (numbers slot buffer out : List ℕ) (e : r ≡ flat) where
+  pub untouched : (r ≡ 0 → ⊥) → (r ≡ flat orElse number) × ((slot ≡ written flat numbers slot) × (out ≡ ifTaken flat buffer out))
+  untouched h = let c = not-called flat r number numbers slot e h in (c .0, (c .1, refused-is flat r buffer out out e h refl))
+
+  pub filled : r ≡ 0 → (k : ℕ) (x y : List ℕ) {v : List ℕ} → k ≡ number → x ≡ put v slot → v ≡ numbers → y ≡ buffer
+      → (k ≡ flat orElse number) × ((x ≡ written flat numbers slot) × (y ≡ ifTaken flat buffer out))
+  filled z k x y n p q b = let c = called flat r number numbers slot e z k x n p q in (c .0, (c .1, done-is flat r buffer out y e z b))

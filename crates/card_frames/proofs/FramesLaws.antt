@@ -10,21 +10,18 @@ use Rattle.origin.specs.declared.Step.{Step}
 use Rattle.origin.specs.Burst.{stepNumbered}
 use Rattle.origin.specs.Send.{sendAnswer, sendBuffer, sendSseq}
 use Rattle.card.specs.Card.{short, put, written}
-use Rattle.card.proofs.CardLaws.{not-called, called}
+use Rattle.card.proofs.CardLaws.{untouched, filled}
 use Rattle.card_frames.specs.Frames.{sentNumbers, stepRefusal, stepAnswer, stepBuffer, stepSseq}
 
 module _ (r : ℕ) (right : Sent) (buffer out slot : List ℕ) (e : r ≡ short 1 slot) where
   pub not-sent : (r ≡ 0 → ⊥)
       → (r ≡ short 1 slot orElse right .refusal) × ((slot ≡ written (short 1 slot) (sentNumbers right) slot) × (out ≡ ifTaken (short 1 slot) buffer out))
-  not-sent h =
-      let c = not-called (short 1 slot) r (right .refusal) (sentNumbers right) slot e h in
-      (c .0, (c .1, refused-is (short 1 slot) r buffer out out e h refl))
+  not-sent = untouched (short 1 slot) r (right .refusal) (sentNumbers right) slot buffer out e
 
   pub sent : r ≡ 0 → (a : Sent) (x y : List ℕ) → a ≡ right → x ≡ put (sentNumbers a) slot → y ≡ buffer
       → (a .refusal ≡ short 1 slot orElse right .refusal) × ((x ≡ written (short 1 slot) (sentNumbers right) slot) × (y ≡ ifTaken (short 1 slot) buffer out))
   sent z a x y q p b =
-      let c = called (short 1 slot) r (right .refusal) (sentNumbers right) slot e z (a .refusal) x (ap (λ (s : Sent). s .refusal) q) p (ap sentNumbers q) in
-      (c .0, (c .1, done-is (short 1 slot) r buffer out y e z b))
+      filled (short 1 slot) r (right .refusal) (sentNumbers right) slot buffer out e z (a .refusal) x y (ap (λ (s : Sent). s .refusal) q) p (ap sentNumbers q) b
 
 -- the origin's call on the number of a step
 module _ (sseq step coding noise : ℕ) (samples : List ℕ) (level wait addr : ℕ) (out : List ℕ) (r : ℕ) (e : r ≡ stepRefusal step) where

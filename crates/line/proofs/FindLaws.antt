@@ -1,0 +1,105 @@
+-- Where a reading lies, and what `next` answers there.
+use Prim.Native.Nat.{ℕ, zero, suc, _+_, _-_, _*_, _≤_, _<_}
+use mathlib.Core.Path.{_≡_, refl, sym, ap, _∙_}
+use mathlib.Core.Bool.{Bool, true, false, _&&_, _||_, not, cond, Bool·beq, false≢true}
+use mathlib.Core.List.{List, [], _∷_}
+use mathlib.Core.Option.{none, some}
+use native.Mathlib.Nat.{le-refl}
+use native.Mathlib.Omega.{arith}
+use lib.Dec.{ltb, eqb}
+use borrow.Author.Tests.{lt-ltb, le-ltb, ltb-true, ltb-false}
+use lib.ListN.{length, take, drop, length-drop, drop-of-length-le}
+use lib.Seq.{take-take, drop-drop, slice, length-take-le}
+use Rattle.octets.proofs.BoolLaws.{and-true}
+use Rattle.bits.specs.Bits.{bits, value}
+use Rattle.bits.proofs.BitLaws.{length-bits}
+use Rattle.line.specs.Line.{flag, begins, flagHere, sevenOnes, opens, ends, until, next, begin, reading, closed}
+use Rattle.line.specs.Parts.{Lies}
+use Rattle.line.proofs.RoomLaws.{ltb-iff}
+use Rattle.line.proofs.SeekLaws.{until-le, until-holds, until-none, drop-take}
+
+-- whether a test holds where it first does: it does, unless it never holds
+until-tells : (test : List Bool → Bool) (l : List Bool) → test [] ≡ false → test (drop (until test l) l) ≡ ltb (until test l) (length l)
+until-tells test l nil = go (ltb (until test l) (length l)) refl
+  where
+    go : (t : Bool) → ltb (until test l) (length l) ≡ t → test (drop (until test l) l) ≡ t
+    go true e = until-holds test l (ltb-true _ _ e)
+    go false e = until-none test l (omega (arith, until-le test l, ltb-false (until test l) (length l) e)) nil
+
+ends-nil : ends [] ≡ false
+unfolding begins
+ends-nil = refl
+
+opens-nil : opens [] ≡ false
+unfolding begins
+opens-nil = refl
+
+-- what begins with p is as long
+begins-long : (p l : List Bool) → begins p l ≡ true → length p ≤ length l
+unfolding begins
+begins-long [] l h = omega arith
+begins-long (a ∷ p) [] h = absurd (false≢true h)
+begins-long (a ∷ p) (b ∷ l) h = omega (arith, begins-long p l (and-true (Bool·beq a b) (begins p l) h .1))
+
+pub length-line : (f : List ℕ) (count : ℕ) → count ≤ 8 * length f → length (take count (bits f)) ≡ count
+length-line f count h = length-take-le count (bits f) (rw (length-bits f) h)
+
+slice-is : (q n : ℕ) (l : List Bool) → take n (drop q l) ≡ slice q (q + n) l
+slice-is q n l = let e : q + n - q ≡ n = omega arith in sym (drop-take q (q + n) l ∙ rw e)
+
+-- ---- a reading
+
+-- no flag opens
+pub lies-none : (l : List Bool) (count place o : ℕ) → length l ≡ count → o ≡ place + until opens (drop place l) → o ≡ count → Lies l count place count count
+unfolding next begin reading until begins
+lies-none l count place o n e h =
+    let d : drop (place + until opens (drop place l) + 8) l ≡ [] = drop-of-length-le l {i = place + until opens (drop place l) + 8} (omega arith) in
+    record { ordered = le-refl count; within = le-refl count; reads = rw (d, le-ltb count count (le-refl count)); stands = λ x. absurd (omega arith) }
+
+module _ (f : List ℕ) (count place o : ℕ) (h : count ≤ 8 * length f) (p : place ≤ count)
+    (eo : o ≡ place + until opens (drop place (take count (bits f)))) (some-opens : o ≡ count → ⊥) where
+  abbrev l : List Bool
+  l = take count (bits f)
+
+  -- a flag that opens has room
+  pub open-room : o + 8 ≤ count
+  open-room =
+      let u : ℕ = until opens (drop place l) in
+      let ll : length l ≡ count = length-line f count h in
+      let t : opens (drop o l) ≡ true =
+      rw (eo, ← drop-drop u place l)
+      (until-tells opens (drop place l) opens-nil ∙ lt-ltb u (length (drop place l)) (omega (arith, until-le opens (drop place l), length-drop place l))) in
+      let w : flagHere (drop o l) ≡ true = and-true _ _ (and-true _ _ t .0) .0 in
+      omega (arith, begins-long flag (drop o l) w, length-drop o l)
+
+  pub lies-some : (e : ℕ) → e ≡ o + 8 + until ends (drop (o + 8) l) → Lies l count place (o + 8) e
+  unfolding next begin reading
+  lies-some e ee =
+      let q : ℕ = o + 8 in
+      let m : ℕ = until ends (drop q l) in
+      let ll : length l ≡ count = length-line f count h in
+      let t : ends (drop m (drop q l)) ≡ ltb e count =
+      until-tells ends (drop q l) ends-nil
+      ∙ ltb-iff m (length (drop q l)) e count (λ x. omega (arith, length-drop q l, open-room)) (λ x. omega (arith, length-drop q l, open-room)) in
+      record {
+        ordered = omega arith;
+        within = omega (arith, until-le ends (drop q l), length-drop q l, open-room);
+        reads = rw (← eo, t, slice-is q m l, drop-drop m q l, ← ee);
+        stands = λ x. rw ee (sym (ap ends (drop-drop m q l))) ∙ t ∙ lt-ltb e count x;
+      }
+
+-- ---- what stands at its end: seven ones begin with a one, and a flag does not
+
+one-first : (l : List Bool) → ends l ≡ true → eqb (value (take 1 l)) 1 ≡ sevenOnes l
+unfolding begins value
+one-first [] h = absurd (false≢true h)
+one-first (true ∷ l) h = sym h
+one-first (false ∷ l) h = refl
+
+pub aborted-is : (f : List ℕ) (count e : ℕ) → e < count → ends (drop e (take count (bits f))) ≡ true
+    → eqb (value (take 1 (drop e (bits f)))) 1 ≡ sevenOnes (drop e (take count (bits f)))
+aborted-is f count e h s =
+    let k : e + 1 ≤ count = omega arith in
+    let one : take 1 (drop e (bits f)) ≡ take 1 (drop e (take count (bits f))) =
+    slice-is e 1 (bits f) ∙ ap (drop e) (sym (take-take (e + 1) count (bits f) k)) ∙ sym (slice-is e 1 (take count (bits f))) in
+    ap (λ (x : List Bool). eqb (value x) 1) one ∙ one-first (drop e (take count (bits f))) s

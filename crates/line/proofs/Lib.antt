@@ -1,0 +1,10 @@
+pub mod AddLaws
+pub mod CarryLaws
+pub mod FindLaws
+pub mod MarkLaws
+pub mod MoreLaws
+pub mod NextLaws
+pub mod PourLaws
+pub mod RoomLaws
+pub mod SeekLaws
+pub mod WordLaws

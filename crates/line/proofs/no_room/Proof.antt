@@ -1,0 +1,61 @@
+use Prim.Native.Nat.{ℕ, suc, _+_, _*_, _≤_}
+use mathlib.Core.Path.{_≡_, sym, ap, _∙_}
+use native.Mathlib.Omega.{arith}
+use borrow.Author.Needs.{needs}
+use borrow.Author.Tests.{not-true}
+use lib.ListN.{length}
+use Rattle.bits.specs.Bits.{bits}
+use Rattle.line.specs.Line.{stuff}
+use Rattle.line.specs.Parts.{sentAs}
+use Rattle.line.specs.Calls.{over}
+use Rattle.line.proofs.AddLaws.{all-bits, whole-frame, sent-most, room-for-most}
+use Rattle.line.proofs.no_room.Statement.{statement}
+use Rattle.line.proofs.no_room.Tie as tie
+
+mul-end : tie.Need-mul-end
+mul-end c = search needs
+
+add-lacks : tie.Need-add-lacks
+add-lacks c = search needs
+
+add-lacks-2 : tie.Need-add-lacks-2
+add-lacks-2 c = search needs
+
+lacks-requires : tie.Need-lacks-requires
+lacks-requires c κs = tt
+
+returns : tie.Need-returns
+returns c =
+    let a = c .before .before .before .args in
+    room-for-most (a .n) (a .begin) (a .frame .now) (sym (c .before .lacks .ensures) ∙ not-true _ (c .if1 .taken))
+
+carried-length-requires : tie.Need-carried-length-requires
+carried-length-requires c κs = all-bits (c .before .before .before .args .frame .now) (c .before .before .before .pre)
+
+sent-is : (c : tie.After-carried-length) → c .carried-length .result ≡ length (sentAs (c .before .before .before .before .args .frame .now))
+sent-is c = c .carried-length .ensures ∙ ap (λ b. length (stuff 4 b)) (whole-frame (c .before .before .before .before .args .frame .now))
+
+add-lacks-3 : tie.Need-add-lacks-3
+add-lacks-3 c = omega (arith, sent-is c, sent-most (c .before .before .before .before .args .frame .now))
+
+lacks-requires-2 : tie.Need-lacks-requires-2
+lacks-requires-2 c κs = tt
+
+returns-2 : tie.Need-returns-2
+returns-2 c =
+    let a = c .before .before .before .before .before .args in
+    c .lacks2 .ensures ∙ ap (λ (m : ℕ). over (a .n) (a .begin + (m + 8))) (sent-is (c .before))
+
+pub no-room-spec : {M : Type 1} → statement M
+no-room-spec =
+    tie.close
+    (tie.spec
+    mul-end
+    add-lacks
+    add-lacks-2
+    lacks-requires
+    returns
+    carried-length-requires
+    add-lacks-3
+    lacks-requires-2
+    returns-2)

@@ -1,0 +1,16 @@
+use Rattle.line.proofs.RoomLaws.{past-is}
+use borrow.Author.Needs.{needs}
+use Rattle.line.proofs.past.Statement.{statement}
+use Rattle.line.proofs.past.Tie as tie
+
+add-result : tie.Need-add-result
+add-result c = search needs
+
+add-result-2 : tie.Need-add-result-2
+add-result-2 c = search needs
+
+returns : tie.Need-returns
+returns c = past-is (c .args .n) (c .args .count)
+
+pub past-spec : {M : Type 1} → statement M
+past-spec = tie.close (tie.spec add-result add-result-2 returns)

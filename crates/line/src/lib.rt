@@ -1,0 +1,394 @@
+// Flags and zero bits: frames on a lent line of bits, the lowest bit of each octet first.
+ghost use mathlib.Core.Path.{_≡_};
+ghost use mathlib.Core.List.{List, _++_};
+ghost use mathlib.Core.Bool.{Bool};
+ghost use Prim.Native.Nat.{_+_, _*_, _%_, _^_, _<_, _≤_};
+ghost use lib.Dec.{eqb};
+ghost use lib.ListN.{length, take, drop};
+ghost use lib.Seq.{slice};
+ghost use Rattle.bits.specs.Bits.{bits, lowest, value};
+ghost use Rattle.line.specs.Line.{flag, until, betweenRefusal};
+ghost use Rattle.line.specs.Parts.{fiveOnes, marks, sought, carried, sentAs, opened, Some, More, Lies};
+ghost use Rattle.line.specs.Calls.{past, over, addRefusal, addAnswer, addBits, addLine, nextAnswer, nextOut};
+use refusals::or_else;
+
+pub struct Added {
+    pub refusal: u8,
+    pub count: usize,
+}
+
+// found: a frame was copied out. Without it and with refusal 0, there is no frame.
+pub struct TakenOff {
+    pub refusal: u8,
+    pub found: bool,
+    pub length: usize,
+    pub place: usize,
+}
+
+// More than the bits of n octets; 8 * n might not fit.
+fn past(n: usize, count: usize) -> bool
+    ensures { λ r. ⌜ r ≡ past n count ⌝ }
+{
+    n < count / 8 + (count % 8 + 7) / 8
+}
+
+// A one for each of n bits where a flag opens; or, where none is sought that opens, where a flag or seven ones begin.
+fn mark(w: u64, n: usize, opening: bool) -> u64
+    requires { ⌜ (n ≤ 56) × (w < 2 ^ n) ⌝ }
+    ensures { λ r. ⌜ r ≡ value (marks (sought opening) (lowest n w)) ⌝ }
+{
+    let zeros = ((1 << n) - 1) - w;
+    let two = w & (w >> 1);
+    let six = two & (two >> 2) & (two >> 4);
+    let flags = zeros & (six >> 1) & (zeros >> 7);
+    if opening {
+        return flags ^ (flags & ((flags >> 7) | (flags >> 8)));
+    }
+    flags | (six & (w >> 6))
+}
+
+// The first place from `place` on where what is sought stands; the count where there is none.
+fn seek(line: &[u8], count: usize, place: usize, opening: bool) -> usize
+    requires { ⌜ (place ≤ count) × (count ≤ 8 * length (now line)) ⌝ }
+    ensures { λ r. ⌜ r ≡ place + until (sought opening) (drop place (take count (bits (now (line .entry))))) ⌝ }
+{
+    let mut i = place;
+    while i < count {
+        let n = octets::lesser(56, count - i);
+        let w = bits::window(line, i, n);
+        let j = u64::trailing_zeros(mark(w, n, opening)) as usize;
+        if j < 40 {
+            return i + j;
+        }
+        i += octets::lesser(40, n);
+    }
+    i
+}
+
+// How many bits go by before five ones begin; 64 where none do.
+fn fives(w: u64) -> usize
+    ensures { λ r. ⌜ r ≡ until fiveOnes (lowest 64 w) ⌝ }
+{
+    let two = w & (w >> 1);
+    u64::trailing_zeros(two & (two >> 2) & (w >> 4)) as usize
+}
+
+// The lowest k bits of w behind the n bits of made.
+fn behind(made: u64, n: usize, w: u64, k: usize) -> u64
+    requires { ⌜ (made < 2 ^ n) × (n + k < 64) ⌝ }
+    ensures { λ r. ⌜ r ≡ made + w % 2 ^ k * 2 ^ n ⌝ }
+{
+    made + ((w & ((1 << k) - 1)) << n)
+}
+
+// What the first of some bits become: the n bits of `bits`.
+struct Piece {
+    bits: u64,
+    n: usize,
+    taken: usize,
+}
+
+// What the first of some bits become, 48 of which stand in a word: the first `sure`, and all of the last five ones that begin among these.
+fn carry_word(bits: u64, sure: usize, writing: bool) -> Piece
+    requires { ⌜ (0 < sure) × (sure ≤ 44) × (bits < 2 ^ 48) ⌝ }
+    ensures { λ r. ⌜ ((bs : List Bool) → bits ≡ value (take 48 bs) → sure ≤ length bs → Some writing bs (r .bits) (r .n) (r .taken)) ⌝ }
+{
+    let put = octets::pick(writing, 1, 0);
+    let skip = 1 - put;
+    let mut w = bits;
+    let mut taken: usize = 0;
+    let mut made: u64 = 0;
+    let mut n: usize = 0;
+    let mut j = fives(w);
+    while taken + j < sure {
+        let k = j + 5;
+        made = behind(made, n, w, k);
+        n += k + put;
+        let gone = k + skip;
+        w = w >> gone;
+        taken += gone;
+        j = fives(w);
+    }
+    let rest = octets::less(sure, taken);
+    let all = n + rest;
+    let passed = taken + rest;
+    Piece {
+        bits: behind(made, n, w, rest),
+        n: all,
+        taken: passed,
+    }
+}
+
+// What some of the bits from i on become.
+fn carry_some(s: &[u8], i: usize, end: usize, writing: bool) -> Piece
+    requires { ⌜ (i < end) × (end ≤ 8 * length (now s)) ⌝ }
+    ensures { λ r. ⌜ Some writing (slice i end (bits (now (s .entry)))) (r .bits) (r .n) (r .taken) ⌝ }
+{
+    let left = octets::lesser(48, end - i);
+    let w = bits::window(s, i, left);
+    carry_word(w, octets::lesser(44, left), writing)
+}
+
+// How many bits the bits from begin to end become. The callers show that the sums fit.
+fn carried_length(s: &[u8], begin: usize, end: usize, writing: bool) -> usize
+    requires { ⌜ (begin ≤ end) × (end ≤ 8 * length (now s)) × (end < 18446744073709551615) × (length (carried writing (slice begin end (bits (now s)))) < 18446744073709551616) ⌝ }
+    ensures { λ r. ⌜ r ≡ length (carried writing (slice begin end (bits (now (s .entry))))) ⌝ }
+{
+    let mut i = begin;
+    let mut total: usize = 0;
+    while i < end {
+        let piece = carry_some(s, i, end, writing);
+        total += piece.n;
+        i += piece.taken;
+    }
+    total
+}
+
+// Bits that do not make an octet yet: n of them, for the octet at `at`.
+struct Held {
+    at: usize,
+    bits: u64,
+    n: usize,
+}
+
+// What the bits from begin to end become, put into out behind n bits that are held for its octet at `at`. Each octet is stored once.
+fn carry(
+    s: &[u8],
+    begin: usize,
+    end: usize,
+    writing: bool,
+    out: &mut [u8],
+    at: usize,
+    held: u64,
+    n: usize,
+) -> Held
+    requires { ⌜ (begin ≤ end) × (end ≤ 8 * length (now s)) × (end < 18446744073709551615) × (n < 8) × (held < 2 ^ n) × (8 * at + n + length (carried writing (slice begin end (bits (now s)))) ≤ 8 * length (now out)) ⌝ }
+    ensures { λ r. ⌜ More (now (out .entry)) (now (out .exit)) at held n (carried writing (slice begin end (bits (now (s .entry))))) (r .at) (r .bits) (r .n) ⌝ }
+{
+    let mut i = begin;
+    let mut to = at;
+    let mut rest = held;
+    let mut m = n;
+    while i < end {
+        let piece = carry_some(s, i, end, writing);
+        let all = m + piece.n;
+        let k = all / 8;
+        rest = bits::pour(&mut *out, to, rest + (piece.bits << m), k);
+        to += k;
+        m = all % 8;
+        i += piece.taken;
+    }
+    Held {
+        at: to,
+        bits: rest,
+        n: m,
+    }
+}
+
+// 22, 23, 1
+fn between_refusal(aborted: bool, n: usize) -> u8
+    ensures { λ r. ⌜ r ≡ betweenRefusal aborted n ⌝ }
+{
+    let size = or_else(refusals::refuse(aborted, 23), refusals::refusal_1(n / 8));
+    or_else(refusals::refuse(n % 8 != 0, 22), size)
+}
+
+fn one_at(line: &[u8], i: usize) -> bool
+    requires { ⌜ i < 8 * length (now line) ⌝ }
+    ensures { λ r. ⌜ r ≡ eqb (value (take 1 (drop i (bits (now (line .entry)))))) 1 ⌝ }
+{
+    bits::window(line, i, 1) == 1
+}
+
+// Where a reading lies: from behind the opening flag to the closing flag or the seven ones, or to the count where there is none.
+struct Span {
+    begin: usize,
+    end: usize,
+}
+
+fn find(line: &[u8], count: usize, place: usize) -> Span
+    requires { ⌜ (place ≤ count) × (count ≤ 8 * length (now line)) ⌝ }
+    ensures { λ r. ⌜ Lies (take count (bits (now (line .entry)))) count place (r .begin) (r .end) ⌝ }
+{
+    let open = seek(line, count, place, true);
+    if open == count {
+        return Span {
+            begin: count,
+            end: count,
+        };
+    }
+    let begin = open + 8;
+    let end = seek(line, count, begin, false);
+    Span { begin, end }
+}
+
+// Copies out the next frame from a place on. Refused, or with no frame, out is as it came; so is what is left of it.
+pub fn next(line: &[u8], count: usize, place: usize, out: &mut [u8]) -> TakenOff
+    ensures answer { λ r. ⌜ r ≡ nextAnswer (now (line .entry)) count place (length (now (out .entry))) ⌝ }
+    ensures buffer { λ _. ⌜ now (out .exit) ≡ nextOut (now (line .entry)) count place (now (out .entry)) ⌝ }
+{
+    if past(line.len(), count) | (count < place) {
+        return TakenOff {
+            refusal: 14,
+            found: false,
+            length: 0,
+            place: 0,
+        };
+    }
+    let span = find(line, count, place);
+    let begin = span.begin;
+    let end = span.end;
+    if end == count {
+        return TakenOff {
+            refusal: 0,
+            found: false,
+            length: 0,
+            place: 0,
+        };
+    }
+    let n = carried_length(line, begin, end, false);
+    let refusal = between_refusal(one_at(line, end), n);
+    if refusal != 0 {
+        return TakenOff {
+            refusal,
+            found: false,
+            length: 0,
+            place: end,
+        };
+    }
+    if out.len() < n / 8 {
+        return TakenOff {
+            refusal: 16,
+            found: false,
+            length: 0,
+            place: 0,
+        };
+    }
+    carry(line, begin, end, false, out, 0, 0, 0);
+    TakenOff {
+        refusal: 0,
+        found: true,
+        length: n / 8,
+        place: end,
+    }
+}
+
+// at + more is past the bits of n octets, or past any count.
+fn lacks(n: usize, at: usize, more: usize) -> bool
+    ensures { λ r. ⌜ r ≡ over n (at + more) ⌝ }
+{
+    if 18446744073709551615 - at < more {
+        return true;
+    }
+    past(n, at + more)
+}
+
+// What stands on the line before the frame's bits: an opening flag, which only an empty line gets, or the bits that came.
+fn open_line(line: &mut [u8], count: usize) -> Held
+    requires { ⌜ (count ≤ 8 * length (now line)) × (1 ≤ length (now line)) ⌝ }
+    ensures { λ r. ⌜ More (now (line .entry)) (now (line .exit)) 0 0 0 (opened (take count (bits (now (line .entry))))) (r .at) (r .bits) (r .n) ⌝ }
+{
+    if count == 0 {
+        line[0] = 126;
+        return Held {
+            at: 1,
+            bits: 0,
+            n: 0,
+        };
+    }
+    let n = count % 8;
+    Held {
+        at: count / 8,
+        bits: bits::window(line, count - n, n),
+        n,
+    }
+}
+
+// The n bits that are still held, into the lowest of the octet at `at`; its higher bits are as they came.
+fn finish(line: &mut [u8], at: usize, held: u64, n: usize)
+    requires { ⌜ (n < 8) × (held < 2 ^ n) × (8 * at + n ≤ 8 * length (now line)) ⌝ }
+    ensures { λ _. ⌜ bits (now (line .exit)) ≡ bits (take at (now (line .entry))) ++ lowest n held ++ drop (8 * at + n) (bits (now (line .entry))) ⌝ }
+{
+    if n != 0 {
+        let higher = line[at] >> n;
+        line[at] = (higher << n) + (held as u8);
+    }
+}
+
+// The closing flag behind the n bits that are held for the octet at `at`, and the end of the line.
+fn close_line(line: &mut [u8], at: usize, held: u64, n: usize)
+    requires { ⌜ (n < 8) × (held < 2 ^ n) × (8 * at + n + 8 ≤ 8 * length (now line)) ⌝ }
+    ensures { λ _. ⌜ bits (now (line .exit)) ≡ bits (take at (now (line .entry))) ++ lowest n held ++ flag ++ drop (8 * at + n + 8) (bits (now (line .entry))) ⌝ }
+{
+    let rest = bits::pour(&mut *line, at, held + (126 << n), 1);
+    finish(line, at + 1, rest, n);
+}
+
+// Whether there is no room for what a frame puts on the line, from `begin` on. Where there is room for the most that it may become,
+// its bits are not counted.
+fn no_room(n: usize, begin: usize, frame: &[u8]) -> bool
+    requires { ⌜ length (now frame) ≤ 490 ⌝ }
+    ensures { λ r. ⌜ r ≡ over n (begin + (length (sentAs (now (frame .entry))) + 8)) ⌝ }
+{
+    let end = 8 * frame.len();
+    if !lacks(n, begin, end + end / 5 + 8) {
+        return false;
+    }
+    let sent = carried_length(frame, 0, end, true);
+    lacks(n, begin, sent + 8)
+}
+
+// 14, 1, 16
+fn add_refusal(line: &[u8], count: usize, frame: &[u8]) -> u8
+    ensures { λ r. ⌜ r ≡ addRefusal (now (line .entry)) count (now (frame .entry)) ⌝ }
+{
+    let n = line.len();
+    if past(n, count) {
+        return 14;
+    }
+    let size = refusals::refusal_1(frame.len());
+    if size != 0 {
+        return size;
+    }
+    refusals::refuse(no_room(n, octets::pick(count == 0, 8, count), frame), 16)
+}
+
+// Puts a frame that is not refused on the line, and answers the count after.
+fn write(line: &mut [u8], count: usize, frame: &[u8]) -> usize
+    requires { ⌜ addRefusal (now line) count (now frame) ≡ 0 ⌝ }
+    ensures answer { λ r. ⌜ r ≡ addAnswer (now (line .entry)) count (now (frame .entry)) .count ⌝ }
+    ensures buffer { λ _. ⌜ bits (now (line .exit)) ≡ addBits (now (line .entry)) count (now (frame .entry)) ⌝ }
+{
+    let first = open_line(&mut *line, count);
+    let end = 8 * frame.len();
+    let last = carry(
+        frame,
+        0,
+        end,
+        true,
+        &mut *line,
+        first.at,
+        first.bits,
+        first.n,
+    );
+    let at = last.at;
+    let n = last.n;
+    close_line(line, at, last.bits, n);
+    8 * at + n + 8
+}
+
+// Adds a frame to the line of the first count bits. Refused, no bit is touched; taken, every bit but those added is as it came.
+pub fn add(line: &mut [u8], count: usize, frame: &[u8]) -> Added
+    ensures answer { λ r. ⌜ r ≡ addAnswer (now (line .entry)) count (now (frame .entry)) ⌝ }
+    ensures buffer { λ _. ⌜ now (line .exit) ≡ addLine (now (line .entry)) count (now (frame .entry)) ⌝ }
+{
+    let refusal = add_refusal(line, count, frame);
+    if refusal != 0 {
+        return Added { refusal, count: 0 };
+    }
+    let after = write(line, count, frame);
+    Added {
+        refusal,
+        count: after,
+    }
+}
