@@ -117,11 +117,11 @@ module _ (o : Origin) (z : refusedAt o ≡ 0) where
   unfolding refusedAt sendAnswer
   not-refused-at = sym (answered _ (at o (o .level) (waitOf (o .from) (o .to)) (o .address))) ∙ z
 
-  taken : SendTaken (o .sseq) (o .step) (o .coding) (o .noise) (o .samples) (o .level) (waitOf (o .from) (o .to)) (o .address) (length (o .out))
+  pub taken : SendTaken (o .sseq) (o .step) (o .coding) (o .noise) (o .samples) (o .level) (waitOf (o .from) (o .to)) (o .address) (length (o .out))
   taken =
       send-taken (o .sseq) (o .step) (o .coding) (o .noise) (o .samples) (o .level) (waitOf (o .from) (o .to)) (o .address) (length (o .out)) not-refused-at
 
-  sent-is : sent o ≡ at o (o .level) (waitOf (o .from) (o .to)) (o .address)
+  pub sent-is : sent o ≡ at o (o .level) (waitOf (o .from) (o .to)) (o .address)
   unfolding sent sendAnswer sendBuffer
   sent-is = whole-output _ (at o (o .level) (waitOf (o .from) (o .to)) (o .address)) (o .out) not-refused-at
 

@@ -4,6 +4,7 @@ pub mod FindLaws
 pub mod MarkLaws
 pub mod MoreLaws
 pub mod NextLaws
+pub mod OneOutcome
 pub mod PourLaws
 pub mod RoomLaws
 pub mod SeekLaws

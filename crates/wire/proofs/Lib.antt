@@ -1,0 +1,7 @@
+pub mod AcrossLaws
+pub mod EachLaws
+pub mod LineLaws
+pub mod OctetLaws
+pub mod ReadBack
+pub mod Resync
+pub mod WireLaws

@@ -1,0 +1,22 @@
+-- Request A4 joined to the layers above: voice frames that origins make, sent over a line and heard at its other end.
+use Prim.Native.Nat.{ℕ, _+_}
+use mathlib.Core.List.{List, [], map}
+use lib.ListN.{length}
+use Rattle.coding.specs.Coding.{sampleBits}
+use Rattle.blocks.specs.Blocks.{cleared}
+use Rattle.endpoint.specs.declared.Heard.{Heard}
+use Rattle.endpoint.specs.Read.{readAnswer}
+use Rattle.chain.specs.Chain.{Origin, sent, lost}
+use Rattle.wire.specs.Wire.{bufferAfter, countAfter, Call, calls}
+
+-- what calls of `origin::send` sent is added to a line begun empty, and taken off it by one call of `next` for each and n more
+abbrev pub carried : List Origin → ℕ → List ℕ → List ℕ → List Call
+carried os n buffer out = calls (length os + n) (bufferAfter buffer 0 (map sent os)) (countAfter buffer 0 (map sent os)) 0 out
+
+-- what the voice reader answers to the octets of a call of `next`
+abbrev pub hears : Call → Heard
+hears c = readAnswer (c .heard)
+
+-- the samples that `origin::send` was given, those bits zero that it dropped
+abbrev pub told : Origin → Heard
+told o = record { refusal = 0; s = sampleBits (o .coding); dropped = lost o []; samples = map (cleared (lost o [])) (o .samples) }
