@@ -1,13 +1,13 @@
 -- Octets, bits and numbers: each taken for the others, whole or in part.
-use Prim.Native.Nat.{ℕ, zero, suc, _+_, _-_, _*_, _/_, _%_, _^_, _≤_, _<_}
+use Prim.Native.Nat.{ℕ, zero, suc, _+_, _-_, _*_, _/_, _%_, _^_, _≤_, _<_, min}
 use mathlib.Core.Path.{_≡_, refl, sym, ap, ap₂, _∙_}
 use mathlib.Core.Bool.{Bool, true, false, cond}
 use mathlib.Core.List.{List, [], _∷_, _++_, append-assoc}
-use native.Mathlib.Nat.{mod-one, zero-mod, zero-div, div-one, mod-eq-of-lt, pow-suc, mul-comm, mul-assoc, one-mul, div-div-eq-div-mul, div-eq-of-lt, add-zero, zero-add, suc-add, not-suc-le-zero, le-of-suc-le-suc, le-of-eq, lt-of-lt-of-le}
+use native.Mathlib.Nat.{mod-one, zero-mod, zero-div, div-one, mod-eq-of-lt, pow-suc, mul-comm, mul-assoc, one-mul, div-div-eq-div-mul, div-eq-of-lt, add-zero, zero-add, suc-add, not-suc-le-zero, le-of-suc-le-suc, le-of-eq, lt-of-lt-of-le, zero-min, min-zero, suc-min-suc, sub-zero, zero-sub, suc-sub-suc}
 use native.Mathlib.Numerals.{add-one}
 use native.Mathlib.Omega.{arith}
 use lib.Dec.{eqb, lit<}
-use lib.Arith.{mod-mul}
+use lib.Arith.{mod-mul, digits-lt}
 use lib.Bits.{bitAnd, and-mask}
 use lib.Pow.{pow-pos, pow-add, pow-mono, shl-exact}
 use lib.ListN.{length, getD, set, take, drop, length-append, length-drop}
@@ -61,6 +61,12 @@ bits-drop (suc j) (x ∷ f) =
 digit-lt : (b : Bool) → cond b 1 0 < 2
 digit-lt true = lit< tt
 digit-lt false = lit< tt
+
+pub half : (b : Bool) (v : ℕ) → (cond b 1 0 + 2 * v) / 2 ≡ v
+half b v = omega (arith, digit-lt b)
+
+pub odd : (b : Bool) (v : ℕ) → (cond b 1 0 + 2 * v) % 2 ≡ cond b 1 0
+odd b v = omega (arith, digit-lt b)
 
 -- a digit c below a number v
 digit-mod : (c v n : ℕ) → c < 2 → c + 2 * (v % 2 ^ n) ≡ (c + 2 * v) % 2 ^ suc n
@@ -117,18 +123,23 @@ value-low (suc n) x =
 pub value-lowest : (n x : ℕ) → x < 2 ^ n → value (lowest n x) ≡ x
 value-lowest n x h = value-low n x ∙ mod-eq-of-lt h
 
+pub lowest-cons : (n : ℕ) (b : Bool) (v : ℕ) → lowest (suc n) (cond b 1 0 + 2 * v) ≡ b ∷ lowest n v
+unfolding lowest
+lowest-cons n b v = rw (odd b v, half b v, bit-of b)
+
 pub lowest-value : (bs : List Bool) → lowest (length bs) (value bs) ≡ bs
 unfolding value lowest
 lowest-value [] = refl
-lowest-value (b ∷ bs) =
-    let c = digit-lt b in
-    let half : (cond b 1 0 + 2 * value bs) / 2 ≡ value bs = omega arith in
-    let odd : (cond b 1 0 + 2 * value bs) % 2 ≡ cond b 1 0 = omega arith in
-    rw (odd, half) (ap₂ (λ (x : Bool) (l : List Bool). x ∷ l) (bit-of b) (lowest-value bs))
+lowest-value (b ∷ bs) = lowest-cons (length bs) b (value bs) ∙ ap (λ (l : List Bool). b ∷ l) (lowest-value bs)
 
 -- bits are known by their value and how many there are
 pub same-bits : (us vs : List Bool) → length us ≡ length vs → value us ≡ value vs → us ≡ vs
 same-bits us vs n e = sym (lowest-value us) ∙ ap₂ lowest n e ∙ lowest-value vs
+
+-- a number y above the n bits of x
+pub joined-lt : (n m x y : ℕ) → x < 2 ^ n → y < 2 ^ m → x + y * 2 ^ n < 2 ^ (n + m)
+joined-lt n m x y h l =
+    rw (pow-add 2 n m) (omega (arith, digits-lt {q = y} {m = 2 ^ m} {r = x} {c = 2 ^ n} l h, mul-comm (2 ^ m) (2 ^ n)))
 
 -- a number y above the lowest n bits of x
 lowest-add : (n m x y : ℕ) → lowest (n + m) (x + y * 2 ^ n) ≡ lowest n x ++ lowest m (x / 2 ^ n + y)
@@ -242,14 +253,25 @@ few-lt s k h =
     let n : length (bits (drop k s)) ≤ 48 = omega (arith, length-bits (drop k s), length-drop k s) in
     lt-of-lt-of-le (value-lt (bits (drop k s))) (pow-mono n)
 
--- ---- a window
+-- ---- a part of a part
 
--- what is cut off behind the window leaves it as it is
+pub drop-take : {A : Type 0} (i m : ℕ) (l : List A) → drop i (take m l) ≡ take (m - i) (drop i l)
+drop-take zero m l = rw (sub-zero m)
+drop-take (suc i) zero l = rw (zero-sub (suc i))
+drop-take (suc i) (suc m) [] = sym (take-nil (suc m - suc i))
+drop-take (suc i) (suc m) (x ∷ l) = drop-take i m l ∙ rw (suc-sub-suc m i)
+
+pub take-take-min : {A : Type 0} (m n : ℕ) (l : List A) → take m (take n l) ≡ take (min m n) l
+take-take-min zero n l = rw (zero-min n)
+take-take-min (suc m) zero l = rw (min-zero (suc m))
+take-take-min (suc m) (suc n) [] = sym (take-nil (min (suc m) (suc n)))
+take-take-min (suc m) (suc n) (x ∷ l) = rw (suc-min-suc m n, take-take-min m n l)
+
+-- what is cut off behind n bits leaves them as they are
 pub cut : (k n m : ℕ) (bs : List Bool) → k + n ≤ m → take n (drop k (take m bs)) ≡ take n (drop k bs)
-cut zero n m bs h = take-take n m bs (omega arith)
-cut (suc k) n zero bs h = absurd (omega arith)
-cut (suc k) n (suc m) [] h = refl
-cut (suc k) n (suc m) (b ∷ bs) h = cut k n m bs (omega arith)
+cut k n m bs h = ap (take n) (drop-take k m bs) ∙ take-take n (m - k) (drop k bs) (omega arith)
+
+-- ---- a window
 
 -- a shift that stays within a word
 pub shifted : (n : ℕ) → n < 64 → 1 * 2 ^ n % 18446744073709551616 ≡ 2 ^ n

@@ -1,1 +1,3 @@
 pub mod BitLaws
+pub mod MarkLaws
+pub mod UntilLaws

@@ -14,12 +14,14 @@ use Rattle.refusals.specs.Refusals.{ifTaken, refuse, _orElse_, refusal1}
 use Rattle.refusals.proofs.RefusalLaws.{if-taken, refused-is, done-is, orElse-take, orElse-pass, orElse-zero, refuse-zero}
 use Rattle.bits.specs.Bits.{bits, lowest, octetsOf}
 use Rattle.bits.proofs.BitLaws.{length-bits, octets-of-bits}
-use Rattle.line.specs.Line.{flag, stuff, put}
-use Rattle.line.specs.Parts.{More, opened, sentAs}
+use Rattle.zeros.specs.Zeros.{stuff}
+use Rattle.zeros.specs.Parts.{More}
+use Rattle.zeros.proofs.CarryLaws.{stuff-most}
+use Rattle.line.specs.Line.{flag, put}
+use Rattle.line.specs.Parts.{opened, sentAs}
 use Rattle.line.specs.Calls.{past, over, news, addRefusal, addAnswer, addBits, addLine}
 use Rattle.line.specs.declared.Added.{Added}
 use Rattle.line.proofs.RoomLaws.{fits, over-less}
-use Rattle.line.proofs.CarryLaws.{stuff-most}
 use Rattle.line.proofs.FindLaws.{length-line}
 use Rattle.line.proofs.MoreLaws.{more-more, behind}
 

@@ -1,30 +1,22 @@
 -- Where a reading lies, and what `next` answers there.
-use Prim.Native.Nat.{ℕ, zero, suc, _+_, _-_, _*_, _≤_, _<_}
+use Prim.Native.Nat.{ℕ, _+_, _-_, _*_, _≤_, _<_}
 use mathlib.Core.Path.{_≡_, refl, sym, ap, _∙_}
-use mathlib.Core.Bool.{Bool, true, false, _&&_, _||_, not, cond, Bool·beq, false≢true}
+use mathlib.Core.Bool.{Bool, true, false, false≢true}
 use mathlib.Core.List.{List, [], _∷_}
-use mathlib.Core.Option.{none, some}
 use native.Mathlib.Nat.{le-refl}
 use native.Mathlib.Omega.{arith}
 use lib.Dec.{ltb, eqb}
-use borrow.Author.Tests.{lt-ltb, le-ltb, ltb-true, ltb-false}
+use borrow.Author.Tests.{lt-ltb, le-ltb}
 use lib.ListN.{length, take, drop, length-drop, drop-of-length-le}
-use lib.Seq.{take-take, drop-drop, slice, length-take-le}
+use lib.Seq.{drop-drop, slice, length-take-le}
 use Rattle.octets.proofs.BoolLaws.{and-true}
 use Rattle.bits.specs.Bits.{bits, value}
-use Rattle.bits.proofs.BitLaws.{length-bits}
-use Rattle.line.specs.Line.{flag, begins, flagHere, sevenOnes, opens, ends, until, next, begin, reading, closed}
+use Rattle.bits.specs.Places.{begins, until}
+use Rattle.bits.proofs.BitLaws.{length-bits, drop-take, cut}
+use Rattle.bits.proofs.UntilLaws.{begins-long, until-le, until-tells}
+use Rattle.line.specs.Line.{flag, flagHere, sevenOnes, opens, ends, next, begin, reading}
 use Rattle.line.specs.Parts.{Lies}
 use Rattle.line.proofs.RoomLaws.{ltb-iff}
-use Rattle.line.proofs.SeekLaws.{until-le, until-holds, until-none, drop-take}
-
--- whether a test holds where it first does: it does, unless it never holds
-until-tells : (test : List Bool → Bool) (l : List Bool) → test [] ≡ false → test (drop (until test l) l) ≡ ltb (until test l) (length l)
-until-tells test l nil = go (ltb (until test l) (length l)) refl
-  where
-    go : (t : Bool) → ltb (until test l) (length l) ≡ t → test (drop (until test l) l) ≡ t
-    go true e = until-holds test l (ltb-true _ _ e)
-    go false e = until-none test l (omega (arith, until-le test l, ltb-false (until test l) (length l) e)) nil
 
 ends-nil : ends [] ≡ false
 unfolding begins
@@ -33,13 +25,6 @@ ends-nil = refl
 opens-nil : opens [] ≡ false
 unfolding begins
 opens-nil = refl
-
--- what begins with p is as long
-begins-long : (p l : List Bool) → begins p l ≡ true → length p ≤ length l
-unfolding begins
-begins-long [] l h = omega arith
-begins-long (a ∷ p) [] h = absurd (false≢true h)
-begins-long (a ∷ p) (b ∷ l) h = omega (arith, begins-long p l (and-true (Bool·beq a b) (begins p l) h .1))
 
 pub length-line : (f : List ℕ) (count : ℕ) → count ≤ 8 * length f → length (take count (bits f)) ≡ count
 length-line f count h = length-take-le count (bits f) (rw (length-bits f) h)
@@ -99,7 +84,4 @@ one-first (false ∷ l) h = refl
 pub aborted-is : (f : List ℕ) (count e : ℕ) → e < count → ends (drop e (take count (bits f))) ≡ true
     → eqb (value (take 1 (drop e (bits f)))) 1 ≡ sevenOnes (drop e (take count (bits f)))
 aborted-is f count e h s =
-    let k : e + 1 ≤ count = omega arith in
-    let one : take 1 (drop e (bits f)) ≡ take 1 (drop e (take count (bits f))) =
-    slice-is e 1 (bits f) ∙ ap (drop e) (sym (take-take (e + 1) count (bits f) k)) ∙ sym (slice-is e 1 (take count (bits f))) in
-    ap (λ (x : List Bool). eqb (value x) 1) one ∙ one-first (drop e (take count (bits f))) s
+    ap (λ (x : List Bool). eqb (value x) 1) (sym (cut e 1 count (bits f) (omega arith))) ∙ one-first (drop e (take count (bits f))) s

@@ -1,11 +1,8 @@
 pub mod AddLaws
-pub mod CarryLaws
 pub mod FindLaws
-pub mod MarkLaws
+pub mod FlagLaws
 pub mod MoreLaws
 pub mod NextLaws
 pub mod OneOutcome
-pub mod PourLaws
 pub mod RoomLaws
 pub mod SeekLaws
-pub mod WordLaws

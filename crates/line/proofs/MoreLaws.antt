@@ -10,10 +10,10 @@ use lib.Dec.{lit<, lit≤}
 use lib.Pow.{shr-lt, pow-mono}
 use lib.Seq.{drop-drop, drop-cons, drop-at, take-at, set-split, take-add, length-take-le}
 use Rattle.bits.specs.Bits.{bits, lowest, value, octetsOf}
-use Rattle.bits.proofs.BitLaws.{length-bits, length-lowest, length-octets, bits-append, bits-drop, bits-take, value-append, value-lt, value-lowest, lowest-append, lowest-split, lowest-value, octets-of-bits, poured}
+use Rattle.bits.proofs.BitLaws.{length-bits, length-lowest, length-octets, bits-append, bits-drop, bits-take, value-append, value-lt, value-lowest, lowest-append, lowest-split, lowest-value, joined-lt, octets-of-bits, poured}
+use Rattle.zeros.specs.Parts.{More}
 use Rattle.line.specs.Line.{flag}
-use Rattle.line.specs.Parts.{More, opened}
-use Rattle.line.proofs.CarryLaws.{joined-lt}
+use Rattle.line.specs.Parts.{opened}
 use Rattle.line.proofs.FindLaws.{length-line}
 
 -- ---- one after another

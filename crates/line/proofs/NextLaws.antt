@@ -15,13 +15,15 @@ use Rattle.refusals.specs.Refusals.{ifTaken, refuse, _orElse_, refusal16}
 use Rattle.refusals.proofs.RefusalLaws.{if-taken, if-refused, refused-is, orElse-take, orElse-zero, refuse-zero}
 use Rattle.bits.specs.Bits.{bits, value, octetsOf}
 use Rattle.bits.proofs.BitLaws.{length-octets}
-use Rattle.line.proofs.CarryLaws.{unstuff-short}
-use Rattle.line.proofs.FindLaws.{length-line, aborted-is}
-use Rattle.line.proofs.MoreLaws.{all-out}
-use Rattle.line.specs.Line.{sevenOnes, unstuff, next, closed, betweenRefusal, Reading}
-use Rattle.line.specs.Parts.{Lies, More}
+use Rattle.zeros.specs.Zeros.{unstuff}
+use Rattle.zeros.specs.Parts.{More}
+use Rattle.zeros.proofs.CarryLaws.{unstuff-short}
+use Rattle.line.specs.Line.{sevenOnes, next, closed, betweenRefusal, Reading}
+use Rattle.line.specs.Parts.{Lies}
 use Rattle.line.specs.Calls.{past, told, heardOut, nextRefusal14, nextAnswer, nextOut}
 use Rattle.line.specs.declared.TakenOff.{TakenOff}
+use Rattle.line.proofs.FindLaws.{length-line, aborted-is}
+use Rattle.line.proofs.MoreLaws.{all-out}
 
 abbrev silence : TakenOff
 silence = record { refusal = 0; found = false; length = 0; place = 0 }

@@ -1,24 +1,19 @@
--- Request A4: a zero after five ones, the flags, and what stands between them.
-use Prim.Native.Nat.{ℕ, zero, suc, _+_, _/_, _%_}
-use mathlib.Core.Bool.{Bool, true, false, _&&_, _||_, not, cond, Bool·beq}
+-- Request A4: the flags on a line, and what stands between them.
+use Prim.Native.Nat.{ℕ, _+_, _/_, _%_}
+use mathlib.Core.Bool.{Bool, true, false, _&&_, _||_, not, cond}
 use mathlib.Core.List.{List, [], _∷_, _++_}
 use mathlib.Core.Option.{Option, none, some}
 use lib.Dec.{eqb}
 use lib.ListN.{length, take, drop}
 use Rattle.refusals.specs.Refusals.{_orElse_, refuse, ifTaken, refusal1}
 use Rattle.bits.specs.Bits.{bits, octetsOf}
+use Rattle.bits.specs.Places.{begins, until}
+use Rattle.zeros.specs.Zeros.{stuff, unstuff}
 
 -- ---- the writer
 
 abbrev pub flag : List Bool
 flag = false ∷ true ∷ true ∷ true ∷ true ∷ true ∷ true ∷ false ∷ []
-
--- the bits with a zero put in after each five ones; n more ones go by before the one that brings a zero
-unfoldable pub stuff : ℕ → List Bool → List Bool
-stuff n [] = []
-stuff n (false ∷ bs) = false ∷ stuff 4 bs
-stuff zero (true ∷ bs) = true ∷ false ∷ stuff 4 bs
-stuff (suc n) (true ∷ bs) = true ∷ stuff n bs
 
 -- what a frame puts on a line: its bits and a closing flag; on an empty line, an opening flag before them
 unfoldable pub put : List Bool → List ℕ → List Bool
@@ -26,19 +21,6 @@ put [] f = flag ++ (stuff 4 (bits f) ++ flag)
 put (b ∷ line) f = stuff 4 (bits f) ++ flag
 
 -- ---- the reader
-
--- the bits with what follows each five ones left out; n more ones go by before that
-unfoldable pub unstuff : ℕ → List Bool → List Bool
-unstuff n [] = []
-unstuff zero (b ∷ bs) = unstuff 5 bs
-unstuff (suc n) (true ∷ bs) = true ∷ unstuff n bs
-unstuff (suc n) (false ∷ bs) = false ∷ unstuff 5 bs
-
--- the bits begin with p
-unfoldable pub begins : List Bool → List Bool → Bool
-begins [] bs = true
-begins (a ∷ p) [] = false
-begins (a ∷ p) (b ∷ bs) = Bool·beq a b && begins p bs
 
 abbrev pub flagHere : List Bool → Bool
 flagHere = begins flag
@@ -52,11 +34,6 @@ opens bs = flagHere bs && not (flagHere (drop 7 bs)) && not (flagHere (drop 8 bs
 
 abbrev pub ends : List Bool → Bool
 ends bs = flagHere bs || sevenOnes bs
-
--- how many bits go by before the test holds of what is left: all of them, where it never does
-unfoldable pub until : (List Bool → Bool) → List Bool → ℕ
-until test [] = 0
-until test (b ∷ bs) = cond (test (b ∷ bs)) 0 (suc (until test bs))
 
 -- what one reading gives: a number, the frame where that is 0, and where the closing flag or the seven ones begin
 pub record Reading : Type 0 where

@@ -1,16 +1,17 @@
 // Flags and zero bits: frames on a lent line of bits, the lowest bit of each octet first.
 ghost use mathlib.Core.Path.{_≡_};
-ghost use mathlib.Core.List.{List, _++_};
-ghost use mathlib.Core.Bool.{Bool};
-ghost use Prim.Native.Nat.{_+_, _*_, _%_, _^_, _<_, _≤_};
+ghost use mathlib.Core.List.{_++_};
+ghost use Prim.Native.Nat.{_+_, _*_, _^_, _<_, _≤_};
 ghost use lib.Dec.{eqb};
 ghost use lib.ListN.{length, take, drop};
-ghost use lib.Seq.{slice};
 ghost use Rattle.bits.specs.Bits.{bits, lowest, value};
-ghost use Rattle.line.specs.Line.{flag, until, betweenRefusal};
-ghost use Rattle.line.specs.Parts.{fiveOnes, marks, sought, carried, sentAs, opened, Some, More, Lies};
+ghost use Rattle.bits.specs.Places.{until, marks};
+ghost use Rattle.zeros.specs.Parts.{More};
+ghost use Rattle.line.specs.Line.{flag, betweenRefusal};
+ghost use Rattle.line.specs.Parts.{sought, sentAs, opened, Lies};
 ghost use Rattle.line.specs.Calls.{past, over, addRefusal, addAnswer, addBits, addLine, nextAnswer, nextOut};
 use refusals::or_else;
+use zeros::Held;
 
 pub struct Added {
     pub refusal: u8,
@@ -63,126 +64,6 @@ fn seek(line: &[u8], count: usize, place: usize, opening: bool) -> usize
         i += octets::lesser(40, n);
     }
     i
-}
-
-// How many bits go by before five ones begin; 64 where none do.
-fn fives(w: u64) -> usize
-    ensures { λ r. ⌜ r ≡ until fiveOnes (lowest 64 w) ⌝ }
-{
-    let two = w & (w >> 1);
-    u64::trailing_zeros(two & (two >> 2) & (w >> 4)) as usize
-}
-
-// The lowest k bits of w behind the n bits of made.
-fn behind(made: u64, n: usize, w: u64, k: usize) -> u64
-    requires { ⌜ (made < 2 ^ n) × (n + k < 64) ⌝ }
-    ensures { λ r. ⌜ r ≡ made + w % 2 ^ k * 2 ^ n ⌝ }
-{
-    made + ((w & ((1 << k) - 1)) << n)
-}
-
-// What the first of some bits become: the n bits of `bits`.
-struct Piece {
-    bits: u64,
-    n: usize,
-    taken: usize,
-}
-
-// What the first of some bits become, 48 of which stand in a word: the first `sure`, and all of the last five ones that begin among these.
-fn carry_word(bits: u64, sure: usize, writing: bool) -> Piece
-    requires { ⌜ (0 < sure) × (sure ≤ 44) × (bits < 2 ^ 48) ⌝ }
-    ensures { λ r. ⌜ ((bs : List Bool) → bits ≡ value (take 48 bs) → sure ≤ length bs → Some writing bs (r .bits) (r .n) (r .taken)) ⌝ }
-{
-    let put = octets::pick(writing, 1, 0);
-    let skip = 1 - put;
-    let mut w = bits;
-    let mut taken: usize = 0;
-    let mut made: u64 = 0;
-    let mut n: usize = 0;
-    let mut j = fives(w);
-    while taken + j < sure {
-        let k = j + 5;
-        made = behind(made, n, w, k);
-        n += k + put;
-        let gone = k + skip;
-        w = w >> gone;
-        taken += gone;
-        j = fives(w);
-    }
-    let rest = octets::less(sure, taken);
-    let all = n + rest;
-    let passed = taken + rest;
-    Piece {
-        bits: behind(made, n, w, rest),
-        n: all,
-        taken: passed,
-    }
-}
-
-// What some of the bits from i on become.
-fn carry_some(s: &[u8], i: usize, end: usize, writing: bool) -> Piece
-    requires { ⌜ (i < end) × (end ≤ 8 * length (now s)) ⌝ }
-    ensures { λ r. ⌜ Some writing (slice i end (bits (now (s .entry)))) (r .bits) (r .n) (r .taken) ⌝ }
-{
-    let left = octets::lesser(48, end - i);
-    let w = bits::window(s, i, left);
-    carry_word(w, octets::lesser(44, left), writing)
-}
-
-// How many bits the bits from begin to end become. The callers show that the sums fit.
-fn carried_length(s: &[u8], begin: usize, end: usize, writing: bool) -> usize
-    requires { ⌜ (begin ≤ end) × (end ≤ 8 * length (now s)) × (end < 18446744073709551615) × (length (carried writing (slice begin end (bits (now s)))) < 18446744073709551616) ⌝ }
-    ensures { λ r. ⌜ r ≡ length (carried writing (slice begin end (bits (now (s .entry))))) ⌝ }
-{
-    let mut i = begin;
-    let mut total: usize = 0;
-    while i < end {
-        let piece = carry_some(s, i, end, writing);
-        total += piece.n;
-        i += piece.taken;
-    }
-    total
-}
-
-// Bits that do not make an octet yet: n of them, for the octet at `at`.
-struct Held {
-    at: usize,
-    bits: u64,
-    n: usize,
-}
-
-// What the bits from begin to end become, put into out behind n bits that are held for its octet at `at`. Each octet is stored once.
-fn carry(
-    s: &[u8],
-    begin: usize,
-    end: usize,
-    writing: bool,
-    out: &mut [u8],
-    at: usize,
-    held: u64,
-    n: usize,
-) -> Held
-    requires { ⌜ (begin ≤ end) × (end ≤ 8 * length (now s)) × (end < 18446744073709551615) × (n < 8) × (held < 2 ^ n) × (8 * at + n + length (carried writing (slice begin end (bits (now s)))) ≤ 8 * length (now out)) ⌝ }
-    ensures { λ r. ⌜ More (now (out .entry)) (now (out .exit)) at held n (carried writing (slice begin end (bits (now (s .entry))))) (r .at) (r .bits) (r .n) ⌝ }
-{
-    let mut i = begin;
-    let mut to = at;
-    let mut rest = held;
-    let mut m = n;
-    while i < end {
-        let piece = carry_some(s, i, end, writing);
-        let all = m + piece.n;
-        let k = all / 8;
-        rest = bits::pour(&mut *out, to, rest + (piece.bits << m), k);
-        to += k;
-        m = all % 8;
-        i += piece.taken;
-    }
-    Held {
-        at: to,
-        bits: rest,
-        n: m,
-    }
 }
 
 // 22, 23, 1
@@ -246,7 +127,7 @@ pub fn next(line: &[u8], count: usize, place: usize, out: &mut [u8]) -> TakenOff
             place: 0,
         };
     }
-    let n = carried_length(line, begin, end, false);
+    let n = zeros::carried_length(line, begin, end, false);
     let refusal = between_refusal(one_at(line, end), n);
     if refusal != 0 {
         return TakenOff {
@@ -264,7 +145,7 @@ pub fn next(line: &[u8], count: usize, place: usize, out: &mut [u8]) -> TakenOff
             place: 0,
         };
     }
-    carry(line, begin, end, false, out, 0, 0, 0);
+    zeros::carry(line, begin, end, false, out, 0, 0, 0);
     TakenOff {
         refusal: 0,
         found: true,
@@ -334,7 +215,7 @@ fn no_room(n: usize, begin: usize, frame: &[u8]) -> bool
     if !lacks(n, begin, end + end / 5 + 8) {
         return false;
     }
-    let sent = carried_length(frame, 0, end, true);
+    let sent = zeros::carried_length(frame, 0, end, true);
     lacks(n, begin, sent + 8)
 }
 
@@ -361,7 +242,7 @@ fn write(line: &mut [u8], count: usize, frame: &[u8]) -> usize
 {
     let first = open_line(&mut *line, count);
     let end = 8 * frame.len();
-    let last = carry(
+    let last = zeros::carry(
         frame,
         0,
         end,

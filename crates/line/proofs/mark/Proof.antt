@@ -5,7 +5,7 @@ use native.Mathlib.Omega.{arith}
 use lib.Pow.{pow-pos}
 use Rattle.bits.specs.Bits.{lowest}
 use Rattle.bits.proofs.BitLaws.{shifted}
-use Rattle.line.proofs.MarkLaws.{flags-marked, opens-marked, ends-marked}
+use Rattle.line.proofs.FlagLaws.{flags-marked, opens-marked, ends-marked}
 use Rattle.line.proofs.mark.Statement.{statement}
 use Rattle.line.proofs.mark.Tie as tie
 

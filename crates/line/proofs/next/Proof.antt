@@ -6,7 +6,7 @@ use lib.Dec.{ltb, lit<}
 use lib.ListN.{length}
 use lib.Seq.{slice}
 use Rattle.bits.specs.Bits.{bits}
-use Rattle.line.specs.Line.{unstuff}
+use Rattle.zeros.specs.Zeros.{unstuff}
 use Rattle.line.specs.Calls.{past}
 use Rattle.line.proofs.NextLaws.{bounds, between-short, next-14, next-none, next-refused, next-short, next-done, whole-octets}
 use borrow.Author.Needs.{needs}

@@ -5,7 +5,7 @@ use borrow.Author.Needs.{needs}
 use borrow.Author.Tests.{not-true}
 use lib.ListN.{length}
 use Rattle.bits.specs.Bits.{bits}
-use Rattle.line.specs.Line.{stuff}
+use Rattle.zeros.specs.Zeros.{stuff}
 use Rattle.line.specs.Parts.{sentAs}
 use Rattle.line.specs.Calls.{over}
 use Rattle.line.proofs.AddLaws.{all-bits, whole-frame, sent-most, room-for-most}

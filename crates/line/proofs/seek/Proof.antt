@@ -8,9 +8,10 @@ use native.Mathlib.Omega.{arith}
 use lib.Count.{trailing-le}
 use lib.ListN.{take, drop, length-take}
 use Rattle.bits.specs.Bits.{bits}
-use Rattle.line.specs.Line.{until}
+use Rattle.bits.specs.Places.{until}
+use Rattle.bits.proofs.UntilLaws.{until-end}
 use Rattle.line.specs.Parts.{sought}
-use Rattle.line.proofs.SeekLaws.{rest, window-fits, found, passed, until-end}
+use Rattle.line.proofs.SeekLaws.{rest, window-fits, found, passed}
 use Rattle.line.proofs.seek.Statement.{statement}
 use Rattle.line.proofs.seek.Tie as tie
 

@@ -7,7 +7,7 @@ use lib.Dec.{eqb}
 use lib.ListN.{length}
 use lib.Seq.{slice}
 use Rattle.bits.specs.Bits.{bits}
-use Rattle.line.specs.Line.{stuff}
+use Rattle.zeros.specs.Zeros.{stuff}
 use Rattle.line.specs.Parts.{sentAs}
 use Rattle.line.proofs.AddLaws.{Taken, taken, whole-frame, all-bits, begins-at, closes-at, written}
 use Rattle.line.proofs.write.Statement.{statement}

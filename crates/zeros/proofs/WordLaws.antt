@@ -5,29 +5,20 @@ use mathlib.Core.Bool.{Bool, true, false, cond, _&&_, Bool·beq}
 use mathlib.Core.List.{List, [], _∷_, _++_}
 use native.Mathlib.Nat.{not-suc-le-zero, le-of-suc-le-suc, min-zero, mod-lt, lt-of-lt-of-le}
 use native.Mathlib.Omega.{arith}
-use lib.Dec.{eqb}
 use lib.Bits.{bitAnd, and-mask}
 use lib.Pow.{pow-pos, pow-mono, shl-exact}
-use borrow.Author.Tests.{eq-eqb, ne-eqb}
-use lib.ListN.{length, take, drop, replicate, length-drop}
+use lib.ListN.{length, take, drop, length-drop}
 use lib.Seq.{take-nil, take-take, drop-drop}
 use Rattle.bits.specs.Bits.{lowest, value}
-use Rattle.bits.proofs.BitLaws.{value-take, value-drop, length-lowest, shifted}
-use Rattle.line.specs.Line.{begins, until}
-use Rattle.line.specs.Parts.{fiveOnes, Some}
-use Rattle.line.proofs.SeekLaws.{until-le, drop-take}
-use Rattle.line.proofs.CarryLaws.{Made, made-none, made-more, made-plain, made-five, five-room, put-le, joined-lt}
-
-digit : (b : Bool) (v : ℕ) → (eqb ((cond b 1 0 + 2 * v) % 2) 1 ≡ b) × ((cond b 1 0 + 2 * v) / 2 ≡ v)
-digit true v = (eq-eqb ((1 + 2 * v) % 2) 1 (omega arith), omega arith)
-digit false v = (ne-eqb ((0 + 2 * v) % 2) 1 (λ h. omega arith), omega arith)
-
-lowest-cons : (k : ℕ) (b : Bool) (v : ℕ) → lowest (suc k) (cond b 1 0 + 2 * v) ≡ b ∷ lowest k v
-unfolding lowest
-lowest-cons k b v = ap₂ (λ (a : Bool) (l : List Bool). a ∷ l) (digit b v .0) (ap (lowest k) (digit b v .1))
+use Rattle.bits.specs.Places.{begins, until}
+use Rattle.bits.proofs.BitLaws.{value-take, value-drop, length-lowest, lowest-cons, joined-lt, shifted, drop-take}
+use Rattle.bits.proofs.MarkLaws.{ones}
+use Rattle.bits.proofs.UntilLaws.{until-le}
+use Rattle.zeros.specs.Parts.{fiveOnes, Some}
+use Rattle.zeros.proofs.CarryLaws.{Made, made-none, made-more, made-plain, made-five, five-room, put-le}
 
 -- ones that begin the bits begin a number that enough of the bits stand in: the zeros above them are no ones
-begins-seen : (p n k : ℕ) (bs : List Bool) → p ≤ n → n ≤ k → begins (replicate p true) (lowest k (value (take n bs))) ≡ begins (replicate p true) bs
+begins-seen : (p n k : ℕ) (bs : List Bool) → p ≤ n → n ≤ k → begins (ones p) (lowest k (value (take n bs))) ≡ begins (ones p) bs
 unfolding begins value lowest
 begins-seen zero n k bs h l = refl
 begins-seen (suc p) n zero [] h l = refl
@@ -35,7 +26,7 @@ begins-seen (suc p) n (suc k) [] h l = rw (take-nil {A = Bool} n)
 begins-seen (suc p) zero k (b ∷ bs) h l = absurd (not-suc-le-zero h)
 begins-seen (suc p) (suc n) zero (b ∷ bs) h l = absurd (not-suc-le-zero l)
 begins-seen (suc p) (suc n) (suc k) (b ∷ bs) h l =
-    ap (begins (replicate (suc p) true)) (lowest-cons k b (value (take n bs)))
+    ap (begins (ones (suc p))) (lowest-cons k b (value (take n bs)))
     ∙ ap (λ (t : Bool). Bool·beq true b && t) (begins-seen p n k bs (le-of-suc-le-suc h) (le-of-suc-le-suc l))
 
 -- so do five ones that begin among the first m places, where the four bits behind these stand in it too
@@ -48,7 +39,7 @@ first-seen (suc m) zero k (b ∷ bs) s h l = absurd (omega arith)
 first-seen (suc m) (suc n) zero (b ∷ bs) s h l = absurd (not-suc-le-zero l)
 first-seen (suc m) (suc n) (suc k) (b ∷ bs) s h l =
     let v : ℕ = value (take n bs) in
-    let e : begins (replicate 4 true) (lowest k v) ≡ begins (replicate 4 true) bs = begins-seen 4 n k bs (omega arith) (le-of-suc-le-suc l) in
+    let e : begins (ones 4) (lowest k v) ≡ begins (ones 4) bs = begins-seen 4 n k bs (omega arith) (le-of-suc-le-suc l) in
     rw (lowest-cons k b v, e)
     (go (until fiveOnes (lowest k v)) (until fiveOnes bs) (fiveOnes (b ∷ bs)) (first-seen m n k bs (le-of-suc-le-suc s) (omega arith) (le-of-suc-le-suc l)))
   where

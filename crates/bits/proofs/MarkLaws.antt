@@ -1,4 +1,4 @@
--- The masks of the code are the marks of tests: what is done with the numbers is done with the tests, at each place.
+-- Marks of a test, as a number: what is done with the numbers is done with the tests, at each place.
 use Prim.Native.Nat.{ℕ, zero, suc, _+_, _-_, _*_, _/_, _%_, _^_, _<_, min, max}
 use mathlib.Core.Path.{_≡_, refl, sym, ap, ap₂, _∙_}
 use mathlib.Core.Bool.{Bool, true, false, _&&_, _||_, not, cond, Bool·beq, and-assoc}
@@ -10,24 +10,15 @@ use lib.Bits.{bitAnd, bitOr, bitXor, differ, and-step, or-step, xor-step}
 use lib.Count.{trailingZeros}
 use lib.ListN.{length, drop, replicate}
 use lib.Seq.{drop-nil, drop-drop}
 use Rattle.bits.specs.Bits.{lowest, value}
-use Rattle.bits.proofs.BitLaws.{value-drop, value-lowest, length-lowest}
-use Rattle.line.specs.Line.{begins, flagHere, opens, ends, until}
-use Rattle.line.specs.Parts.{marks, fiveOnes}
+use Rattle.bits.specs.Places.{begins, until, marks}
+use Rattle.bits.proofs.BitLaws.{half, odd, value-drop, value-lowest, length-lowest}
 
 -- m has a one for each place where the test holds
 pub record Marked (bs : List Bool) (test : List Bool → Bool) (m : ℕ) : Type 0 where
   pub is : m ≡ value (marks test bs)
 
 -- ---- digit by digit
-
-half : (b : Bool) (v : ℕ) → (cond b 1 0 + 2 * v) / 2 ≡ v
-half true v = omega arith
-half false v = omega arith
-
-odd : (b : Bool) (v : ℕ) → (cond b 1 0 + 2 * v) % 2 ≡ cond b 1 0
-odd true v = omega arith
-odd false v = omega arith
 
 -- an operation that goes by d on two digits, and d by t on two bits
 module _ (op d : ℕ → ℕ → ℕ) (t : Bool → Bool → Bool) (step : (a b : ℕ) → op a b ≡ op (a / 2) (b / 2) * 2 + d (a % 2) (b % 2)) (none : op 0 0 ≡ 0)
@@ -121,16 +112,9 @@ zeros-value [] = refl
 zeros-value (true ∷ bs) = omega (arith, zeros-value bs, pow-suc 2 (length bs))
 zeros-value (false ∷ bs) = omega (arith, zeros-value bs, pow-suc 2 (length bs))
 
--- x, but neither y nor z
-but : (x y z : Bool) → not (Bool·beq x (x && (y || z))) ≡ (x && not y && not z)
-but false y z = refl
-but true true z = refl
-but true false true = refl
-but true false false = refl
+-- ---- masks of runs in the bits of a word
 
--- ---- the masks of the code
-
-abbrev ones : ℕ → List Bool
+abbrev pub ones : ℕ → List Bool
 ones n = replicate n true
 
 abbrev pub two : ℕ → ℕ
@@ -139,46 +123,20 @@ two w = bitAnd w (w / 2 ^ 1)
 abbrev pub four : ℕ → ℕ
 four w = bitAnd (two w) (two w / 2 ^ 2)
 
-abbrev pub six : ℕ → ℕ
-six w = bitAnd (four w) (two w / 2 ^ 4)
-
-abbrev pub flags : ℕ → ℕ → ℕ
-flags w zeros = bitAnd (bitAnd zeros (six w / 2 ^ 1)) (zeros / 2 ^ 7)
-
 module _ (n w : ℕ) (fits : w < 2 ^ n) where
-  one-marked : Marked (lowest n w) (begins (ones 1)) w
+  pub one-marked : Marked (lowest n w) (begins (ones 1)) w
   one-marked = record { is = sym (value-lowest n w fits) ∙ ones-value (lowest n w) }
 
-  two-marked : Marked (lowest n w) (begins (ones 2)) (two w)
+  pub two-marked : Marked (lowest n w) (begins (ones 2)) (two w)
   two-marked = join (ones 1) true (ones 0) one-marked one-marked
 
-  four-marked : Marked (lowest n w) (begins (ones 4)) (four w)
+  pub four-marked : Marked (lowest n w) (begins (ones 4)) (four w)
   four-marked = join (ones 2) true (ones 1) two-marked two-marked
 
-  pub five-marked : Marked (lowest n w) fiveOnes (bitAnd (four w) (w / 2 ^ 4))
-  five-marked = join (ones 4) true (ones 0) four-marked one-marked
-
-  six-marked : Marked (lowest n w) (begins (ones 6)) (six w)
-  six-marked = join (ones 4) true (ones 1) four-marked two-marked
-
-  module _ (zeros : ℕ) (rest : zeros ≡ 2 ^ n - 1 - w) where
-    zeros-marked : Marked (lowest n w) (begins (false ∷ [])) zeros
-    zeros-marked =
-        let all : suc (value (marks (begins (false ∷ [])) (lowest n w)) + value (lowest n w)) ≡ 2 ^ n = zeros-value (lowest n w) ∙ ap (λ (k : ℕ). 2 ^ k) (length-lowest n w) in
-        record { is = omega (arith, value-lowest n w fits) }
-
-    pub flags-marked : Marked (lowest n w) flagHere (flags w zeros)
-    flags-marked = join (false ∷ ones 6) false [] (join (false ∷ []) true (ones 5) zeros-marked six-marked) zeros-marked
-
-    pub ends-marked : Marked (lowest n w) ends (bitOr (flags w zeros) (bitAnd (six w) (w / 2 ^ 6)))
-    ends-marked = either flags-marked (join (ones 6) true [] six-marked one-marked)
-
--- of the marks of flags
-pub opens-marked : (bs : List Bool) → (let m : ℕ = value (marks flagHere bs) in Marked bs opens (bitXor m (bitAnd m (bitOr (m / 2 ^ 7) (m / 2 ^ 8)))))
-unfolding begins
-opens-marked bs =
-    let m : Marked bs flagHere (value (marks flagHere bs)) = record { is = refl } in
-    same (λ l. but (flagHere l) (flagHere (drop 7 l)) (flagHere (drop 8 l))) (unlike m (both m (either (later 7 refl m) (later 8 refl m))))
+  pub zero-marked : (zeros : ℕ) → zeros ≡ 2 ^ n - 1 - w → Marked (lowest n w) (begins (false ∷ [])) zeros
+  zero-marked zeros rest =
+      let all : suc (value (marks (begins (false ∷ [])) (lowest n w)) + value (lowest n w)) ≡ 2 ^ n = zeros-value (lowest n w) ∙ ap (λ (k : ℕ). 2 ^ k) (length-lowest n w) in
+      record { is = omega (arith, value-lowest n w fits) }
 
 -- ---- the lowest one of a mask is where the test first holds
 

@@ -1,13 +1,13 @@
--- `line::carry_some` meets its contract.
+-- `zeros::carry_some` meets its contract.
 use Prim.Native.Nat.{_≤_}
 use native.Mathlib.Omega.{arith}
 use lib.ListN.{length}
 use lib.Seq.{slice, length-slice}
 use Rattle.bits.specs.Bits.{bits}
 use Rattle.bits.proofs.BitLaws.{length-bits}
-use Rattle.line.proofs.PourLaws.{look-is, look-fits}
-use Rattle.line.proofs.carry_some.Statement.{statement}
-use Rattle.line.proofs.carry_some.Tie as tie
+use Rattle.zeros.proofs.PourLaws.{look-is, look-fits}
+use Rattle.zeros.proofs.carry_some.Statement.{statement}
+use Rattle.zeros.proofs.carry_some.Tie as tie
 
 sub-lesser : tie.Need-sub-lesser
 sub-lesser c = omega arith

@@ -1,12 +1,12 @@
--- `line::carried_length` meets its contract: what is counted and what the rest becomes make the whole.
+-- `zeros::carried_length` meets its contract: what is counted and what the rest becomes make the whole.
 use Prim.Native.Nat.{_+_, _-_, _≤_}
 use mathlib.Core.Path.{_≡_, refl, sym, ap, _∙_}
 use native.Mathlib.Nat.{add-zero, zero-add}
 use native.Mathlib.Omega.{arith}
 use lib.ListN.{length}
-use Rattle.line.proofs.PourLaws.{become, some-within, some-length, become-none}
-use Rattle.line.proofs.carried_length.Statement.{statement}
-use Rattle.line.proofs.carried_length.Tie as tie
+use Rattle.zeros.proofs.PourLaws.{become, some-within, some-length, become-none}
+use Rattle.zeros.proofs.carried_length.Statement.{statement}
+use Rattle.zeros.proofs.carried_length.Tie as tie
 
 abbrev Inv-loop : tie.InvT-loop
 Inv-loop s begin end writing i₀ total₀ i total =

@@ -10,10 +10,9 @@ use lib.Pow.{pow-mono, shl-exact, shr-lt}
 use lib.ListN.{length, take, drop, length-append, length-drop, length-take, drop-of-length-le}
 use lib.Seq.{slice, length-slice, take-at, drop-at, drop-drop, length-take-le}
 use Rattle.bits.specs.Bits.{bits, lowest, value, octetsOf}
-use Rattle.bits.proofs.BitLaws.{value-lt, length-bits, length-lowest, length-octets, bits-append, lowest-append, power-octets, poured}
-use Rattle.line.specs.Parts.{carried, Some, More}
-use Rattle.line.proofs.SeekLaws.{drop-take, take-take-min}
-use Rattle.line.proofs.CarryLaws.{carried-empty, joined-lt}
+use Rattle.bits.proofs.BitLaws.{value-lt, length-bits, length-lowest, length-octets, bits-append, lowest-append, joined-lt, power-octets, poured, drop-take, take-take-min}
+use Rattle.zeros.specs.Parts.{carried, Some, More}
+use Rattle.zeros.proofs.CarryLaws.{carried-empty}
 
 -- ---- a look
 

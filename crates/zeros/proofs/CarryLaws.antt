@@ -1,21 +1,21 @@
 -- Laws of the zeros after five ones: what bits become is found a stretch at a time, up to the first five ones and behind them.
 use Prim.Native.Nat.{ℕ, zero, suc, _+_, _-_, _*_, _^_, _≤_, _<_}
 use mathlib.Core.Path.{_≡_, refl, sym, ap, _∙_}
-use mathlib.Core.Bool.{Bool, true, false, cond, _&&_, Bool·beq, false≢true}
+use mathlib.Core.Bool.{Bool, true, false, cond, false≢true}
 use mathlib.Core.List.{List, [], _∷_, _++_, append-assoc}
-use native.Mathlib.Nat.{not-suc-le-zero, le-of-suc-le-suc, le-refl, lt-of-lt-of-le, mul-comm}
+use native.Mathlib.Nat.{not-suc-le-zero, le-of-suc-le-suc, le-refl, lt-of-lt-of-le}
 use native.Mathlib.Omega.{arith}
-use lib.ListN.{length, take, drop, replicate, length-drop}
+use lib.ListN.{length, take, drop, length-drop}
 use lib.Dec.{lit<, lit≤}
-use lib.Arith.{digits-lt}
-use lib.Pow.{pow-add, pow-mono}
+use lib.Pow.{pow-mono}
 use lib.Seq.{take-add, drop-drop, length-take-le}
-use Rattle.octets.proofs.BoolLaws.{and-true}
 use Rattle.bits.specs.Bits.{lowest, value}
-use Rattle.bits.proofs.BitLaws.{value-lt, lowest-value, lowest-append}
-use Rattle.line.specs.Line.{stuff, unstuff, begins, until}
-use Rattle.line.specs.Parts.{fiveOnes, carried}
-use Rattle.line.proofs.SeekLaws.{until-holds}
+use Rattle.bits.specs.Places.{begins, until}
+use Rattle.bits.proofs.BitLaws.{value-lt, lowest-value, lowest-append, joined-lt}
+use Rattle.bits.proofs.MarkLaws.{ones}
+use Rattle.bits.proofs.UntilLaws.{begins-long, until-holds}
+use Rattle.zeros.specs.Zeros.{stuff, unstuff}
+use Rattle.zeros.specs.Parts.{fiveOnes, carried}
 
 -- ---- both ways in one
 
@@ -86,9 +86,6 @@ stuff-most bs = omega (arith, stuff-most-from 4 bs (le-refl 4))
 
 -- ---- stretches
 
-abbrev ones : ℕ → List Bool
-ones n = replicate n true
-
 -- how many ones have gone by is of no account where fewer follow than are wanted
 same : (w : Bool) (n m : ℕ) (bs : List Bool) → begins (ones (suc n)) bs ≡ false → n ≤ m → at w n bs ≡ at w m bs
 unfolding begins
@@ -119,12 +116,6 @@ five w n (false ∷ bs) h = absurd (false≢true h)
 five w zero (true ∷ bs) h = at-fifth w bs
 five w (suc n) (true ∷ bs) h = at-one w n bs ∙ ap (λ (r : List Bool). true ∷ r) (five w n bs h)
 
-begins-room : (p bs : List Bool) → begins p bs ≡ true → length p ≤ length bs
-unfolding begins
-begins-room [] bs h = omega arith
-begins-room (a ∷ p) [] h = absurd (false≢true h)
-begins-room (a ∷ p) (b ∷ bs) h = omega (arith, begins-room p bs (and-true (Bool·beq a b) (begins p bs) h .1))
-
 -- ---- pieces
 
 -- the first `taken` of the bits become the n bits of `made`, and what is left is carried by itself
@@ -135,10 +126,6 @@ pub record Made (w : Bool) (bs : List Bool) (made n taken : ℕ) : Type 0 where
 pub made-none : (w : Bool) (bs : List Bool) → Made w bs 0 0 0
 unfolding lowest
 made-none w bs = record { fits = lit< tt; is = refl }
-
-pub joined-lt : (n m x y : ℕ) → x < 2 ^ n → y < 2 ^ m → x + y * 2 ^ n < 2 ^ (n + m)
-joined-lt n m x y h l =
-    rw (pow-add 2 n m) (omega (arith, digits-lt {q = y} {m = 2 ^ m} {r = x} {c = 2 ^ n} l h, mul-comm (2 ^ m) (2 ^ n)))
 
 -- one piece behind the other
 pub made-more : (w : Bool) (bs : List Bool) (x n t y m g : ℕ) → Made w bs x n t → Made w (drop t bs) y m g
@@ -167,7 +154,7 @@ module _ (w : Bool) (bs : List Bool) where
     pub five-room : until fiveOnes bs + 5 ≤ length bs
     five-room =
         let j : ℕ = until fiveOnes bs in
-        omega (arith, begins-room (ones 5) (drop j bs) (until-holds fiveOnes bs h), length-drop j bs)
+        omega (arith, begins-long (ones 5) (drop j bs) (until-holds fiveOnes bs h), length-drop j bs)
 
     -- bits up to the first five ones, and what is put in or left out behind these
     pub made-five : (let j : ℕ = until fiveOnes bs in let put : ℕ = cond w 1 0 in Made w bs (value (take (j + 5) bs)) (j + 5 + put) (j + 5 + (1 - put)))

@@ -1,12 +1,12 @@
--- `line::behind` meets its contract.
+-- `zeros::behind` meets its contract.
 use mathlib.Core.Path.{ap}
 use Prim.Native.Nat.{ℕ, _+_}
 use native.Mathlib.Omega.{arith}
 use lib.Pow.{pow-pos}
 use Rattle.bits.proofs.BitLaws.{shifted}
-use Rattle.line.proofs.WordLaws.{behind-is, behind-fits}
-use Rattle.line.proofs.behind.Statement.{statement}
-use Rattle.line.proofs.behind.Tie as tie
+use Rattle.zeros.proofs.WordLaws.{behind-is, behind-fits}
+use Rattle.zeros.proofs.behind.Statement.{statement}
+use Rattle.zeros.proofs.behind.Tie as tie
 
 shl-result : tie.Need-shl-result
 shl-result c = omega arith

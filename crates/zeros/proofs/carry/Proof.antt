@@ -1,11 +1,11 @@
--- `line::carry` meets its contract: each turn pours a piece, and what is put and what is left are all.
+-- `zeros::carry` meets its contract: each turn pours a piece, and what is put and what is left are all.
 use Prim.Native.Nat.{ℕ, _+_, _-_, _≤_}
 use mathlib.Core.Bool.{Bool}
 use mathlib.Core.List.{List}
 use native.Mathlib.Omega.{arith}
-use Rattle.line.proofs.PourLaws.{become, Poured, poured-none, poured-all, Step, poured-step, some-within, some-is, become-none}
-use Rattle.line.proofs.carry.Statement.{statement}
-use Rattle.line.proofs.carry.Tie as tie
+use Rattle.zeros.proofs.PourLaws.{become, Poured, poured-none, poured-all, Step, poured-step, some-within, some-is, become-none}
+use Rattle.zeros.proofs.carry.Statement.{statement}
+use Rattle.zeros.proofs.carry.Tie as tie
 
 abbrev Inv-loop : tie.InvT-loop
 Inv-loop s begin end writing out₀ at held n i₀ to₀ rest₀ m₀ out i to rest m =

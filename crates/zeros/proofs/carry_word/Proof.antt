@@ -1,4 +1,4 @@
--- `line::carry_word` meets its contract: each turn of the loop is `turn-five`, and what is left `turn-last`.
+-- `zeros::carry_word` meets its contract: each turn of the loop is `turn-five`, and what is left `turn-last`.
 use Prim.Native.Nat.{_+_, _-_, _≤_}
 use mathlib.Core.Path.{_≡_, sym, ap, _∙_}
 use mathlib.Core.Bool.{Bool, cond}
@@ -8,13 +8,13 @@ use native.Mathlib.Omega.{arith}
 use lib.ListN.{length, take}
 use lib.Seq.{take-all}
 use Rattle.bits.specs.Bits.{lowest, value}
+use Rattle.bits.specs.Places.{until}
 use Rattle.bits.proofs.BitLaws.{length-lowest, value-lowest}
-use Rattle.line.specs.Line.{until}
-use Rattle.line.specs.Parts.{fiveOnes}
-use Rattle.line.proofs.CarryLaws.{put-le}
-use Rattle.line.proofs.WordLaws.{Turn, turn-none, turn-five, turn-last, turn-fits, turn-room}
-use Rattle.line.proofs.carry_word.Statement.{statement}
-use Rattle.line.proofs.carry_word.Tie as tie
+use Rattle.zeros.specs.Parts.{fiveOnes}
+use Rattle.zeros.proofs.CarryLaws.{put-le}
+use Rattle.zeros.proofs.WordLaws.{Turn, turn-none, turn-five, turn-last, turn-fits, turn-room}
+use Rattle.zeros.proofs.carry_word.Statement.{statement}
+use Rattle.zeros.proofs.carry_word.Tie as tie
 
 abbrev Inv-loop : tie.InvT-loop
 Inv-loop bits sure writing put skip w₀ taken₀ made₀ n₀ j₀ w taken made n j =
