@@ -8,7 +8,7 @@ use Rattle.chain.specs.Chain.{Origin, refusedAt, sent, AllReady, levels}
 use Rattle.chain.proofs.ChainLaws.{heard, no-node, read-back as samples-back}
 use Rattle.wire.specs.Reads.{Each}
 use Rattle.wire.specs.Wire.{Frame, Frames, Room, Call, said, whole}
-use Rattle.wire.specs.Across.{carried, hears, told}
+use Rattle.wire.specs.Across.{crossed, hears, told}
 use Rattle.wire.proofs.EachLaws.{each-map, map-each}
 use Rattle.wire.proofs.OctetLaws.{sent-frame}
 use Rattle.wire.proofs.WireLaws.{read-back}
@@ -25,10 +25,10 @@ samples-at o z e = sym (ap (λ (f : List ℕ). readAnswer f .samples) (no-node (
 module _ (os : List Origin) (buffer out : List ℕ) (n : ℕ) (room : Room buffer 0 (map sent os)) (enough : 490 ≤ length out) where
   -- whatever is made of the octets of each call
   by-octets : {B : Type 0} (g : List ℕ → B) (k : Origin → B) (P : Origin → Type 0) → ((o : Origin) → P o → refusedAt o ≡ 0)
-      → ((o : Origin) → P o → g (sent o) ≡ k o) → Each P os → map (λ (c : Call). g (c .heard)) (carried os n buffer out) ≡ map k os
+      → ((o : Origin) → P o → g (sent o) ≡ k o) → Each P os → map (λ (c : Call). g (c .heard)) (crossed os n buffer out) ≡ map k os
   by-octets g k P z e p =
       let fs : List (List ℕ) = map sent os in
-      let cs : List Call = carried os n buffer out in
+      let cs : List Call = crossed os n buffer out in
       let s : Frames fs = each-map P Frame sent (λ o q. sent-frame o (z o q)) os p in
       let h : map said cs ≡ map whole fs = rw (length-map os sent) at (read-back fs buffer out n s room enough) in
       sym (map-map (λ (x : ℕ × List ℕ). g (x .1)) said cs)
@@ -38,11 +38,11 @@ module _ (os : List Origin) (buffer out : List ℕ) (n : ℕ) (room : Room buffe
       ∙ map-each P (λ o. g (sent o)) k e os p
 
   -- what any list of calls that are not refused sent is heard, each in its turn and nothing else
-  pub across : Each (λ o. refusedAt o ≡ 0) os → map hears (carried os n buffer out) ≡ map told os
+  pub across : Each (λ o. refusedAt o ≡ 0) os → map hears (crossed os n buffer out) ≡ map told os
   across = by-octets readAnswer told (λ o. refusedAt o ≡ 0) (λ o z. z) heard-at
 
   -- at level 0 the samples heard are the samples
   pub across-whole : Each (λ o. (refusedAt o ≡ 0) × (o .level ≡ 0)) os
-      → map (λ (c : Call). hears c .samples) (carried os n buffer out) ≡ map (λ (o : Origin). o .samples) os
+      → map (λ (c : Call). hears c .samples) (crossed os n buffer out) ≡ map (λ (o : Origin). o .samples) os
   across-whole =
       by-octets (λ (f : List ℕ). readAnswer f .samples) (λ o. o .samples) (λ o. (refusedAt o ≡ 0) × (o .level ≡ 0)) (λ o p. p .0) (λ o p. samples-at o (p .0) (p .1))

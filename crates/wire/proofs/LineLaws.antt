@@ -11,7 +11,9 @@ use lib.Seq.{take-append-seam, drop-append-seam, drop-append-add}
 use Rattle.refusals.specs.Refusals.{refusal1}
 use Rattle.bits.specs.Bits.{bits}
 use Rattle.bits.proofs.BitLaws.{length-bits, octets-of-bits}
-use Rattle.line.specs.Line.{flag, stuff, unstuff, begins, flagHere, sevenOnes, opens, ends, until, next, begin, reading, closed, betweenRefusal}
+use Rattle.bits.specs.Places.{begins, until}
+use Rattle.zeros.specs.Zeros.{stuff, unstuff}
+use Rattle.line.specs.Line.{flag, flagHere, sevenOnes, opens, ends, next, begin, reading, closed, betweenRefusal}
 
 -- ---- a zero after five ones
 

@@ -14,7 +14,9 @@ use Rattle.refusals.specs.Refusals.{refusal1}
 use Rattle.refusals.proofs.RefusalLaws.{refuse-zero}
 use Rattle.bits.specs.Bits.{bits}
 use Rattle.bits.proofs.BitLaws.{length-bits}
-use Rattle.line.specs.Line.{flag, stuff, put, begins, until, next, begin, reading, Reading}
+use Rattle.bits.specs.Places.{begins, until}
+use Rattle.zeros.specs.Zeros.{stuff}
+use Rattle.line.specs.Line.{flag, put, next, begin, reading, Reading}
 use Rattle.wire.specs.Reads.{putAll, reads}
 use Rattle.wire.specs.Wire.{Frame, Frames, whole}
 use Rattle.wire.proofs.LineLaws.{stuff-long, stuff-calm, next-calm, closed-frame, next-end}

@@ -11,7 +11,8 @@ use borrow.Author.Tests.{not-true}
 use lib.ListN.{length, take, drop, length-drop}
 use lib.Seq.{drop-append-add, drop-append-seam, drop-append-le}
 use Rattle.octets.proofs.BoolLaws.{and-true}
-use Rattle.line.specs.Line.{flag, begins, flagHere, opens, ends, until, next, begin, reading, closed, Reading}
+use Rattle.bits.specs.Places.{begins, until}
+use Rattle.line.specs.Line.{flag, flagHere, opens, ends, next, begin, reading, closed, Reading}
 use Rattle.wire.specs.Reads.{reads, later, Resumes}
 use Rattle.wire.proofs.LineLaws.{until-here}
 use Rattle.wire.proofs.ReadBack.{reads-none, reads-some}

@@ -15,8 +15,10 @@ use Rattle.refusals.specs.Refusals.{refuse, ifTaken, refusal1}
 use Rattle.refusals.proofs.RefusalLaws.{orElse-zero, refuse-zero}
 use Rattle.bits.specs.Bits.{bits, octetsOf}
 use Rattle.bits.proofs.BitLaws.{length-bits, length-octets, bits-of-octets}
-use Rattle.line.specs.Line.{Reading, begins, flagHere, ends, until, put, next, begin, reading, closed, betweenRefusal}
+use Rattle.bits.specs.Places.{begins, until}
+use Rattle.line.specs.Line.{Reading, flagHere, ends, put, next, begin, reading, closed, betweenRefusal}
 use Rattle.line.specs.Calls.{past, over, news, addRefusal, addAnswer, addBits, addLine, told, heardOut, nextRefusal14, nextAnswer, nextOut}
+use Rattle.line.proofs.RoomLaws.{over-less}
 use Rattle.wire.specs.Reads.{Each, putAll, reads, later}
 use Rattle.wire.specs.Wire.{Frames, bufferAfter, countAfter, AllAdded, Room, Written, Lent, Call, calls, said, whole, laterCall, Recovers}
 use Rattle.wire.proofs.EachLaws.{each-map}
@@ -29,14 +31,6 @@ putAll-long : (line : List Bool) (fs : List (List ℕ)) → length line ≤ leng
 unfolding putAll
 putAll-long line [] = le-refl (length line)
 putAll-long line (f ∷ fs) = omega (arith, putAll-long (line ++ put line f) fs, length-append line (put line f))
-
--- where there is room for m bits there is room for k
-less-over : (n k m : ℕ) → k ≤ m → over n m ≡ false → over n k ≡ false
-less-over n k m h o =
-    let p = or-false (past n m) (ltb 18446744073709551615 m) o in
-    let a : m ≤ 8 * n = ltb-false _ _ (p .0) in
-    let b : m ≤ 18446744073709551615 = ltb-false _ _ (p .1) in
-    rw (le-ltb (8 * n) k (omega arith), le-ltb 18446744073709551615 k (omega arith))
 
 -- one call that has room for what the frame puts on the line: it is taken, and what it puts stands behind the line
 record One (buffer : List ℕ) (count : ℕ) (f : List ℕ) : Type 0 where
@@ -80,7 +74,7 @@ added buffer count (f ∷ fs) h s o =
     let ll : length l ≡ count = length-take-le count b (rw (length-bits buffer) h) in
     let n : count + length w ≤ length (putAll (l ++ w) fs) = omega (arith, putAll-long (l ++ w) fs, length-append l w) in
     let k : One buffer count f =
-    one buffer count f h (s .0 .size) (less-over (length buffer) (count + length w) (length (putAll (l ++ w) fs)) n o) in
+    one buffer count f h (s .0 .size) (sym (over-less (length buffer) (count + length w) (length (putAll (l ++ w) fs)) n o)) in
     let r = added (addLine buffer count f) (addAnswer buffer count f .count) fs (k .within) (s .1) (rw (k .size, k .line) o) in
     record { all = (k .taken, r .all); line = r .line ∙ rw (k .line); long = r .long ∙ rw (k .line); within = r .within }
 

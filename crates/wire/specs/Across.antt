@@ -10,8 +10,8 @@ use Rattle.chain.specs.Chain.{Origin, sent, lost}
 use Rattle.wire.specs.Wire.{bufferAfter, countAfter, Call, calls}
 
 -- what calls of `origin::send` sent is added to a line begun empty, and taken off it by one call of `next` for each and n more
-abbrev pub carried : List Origin → ℕ → List ℕ → List ℕ → List Call
-carried os n buffer out = calls (length os + n) (bufferAfter buffer 0 (map sent os)) (countAfter buffer 0 (map sent os)) 0 out
+abbrev pub crossed : List Origin → ℕ → List ℕ → List ℕ → List Call
+crossed os n buffer out = calls (length os + n) (bufferAfter buffer 0 (map sent os)) (countAfter buffer 0 (map sent os)) 0 out
 
 -- what the voice reader answers to the octets of a call of `next`
 abbrev pub hears : Call → Heard
