@@ -1,5 +1,6 @@
 /* The calls of the card, for a host in C. Document 01 is the law of what they do, as request A2 of
- * document 02 amends it; for the two calls of the signalling watch it is request A1.
+ * document 02 amends it; for the two calls of the signalling watch it is request A1, for the two of a
+ * line of bits request A4.
  *
  * Every call takes any octets and any numbers, comes to an end and gives a refusal number of
  * those documents, 0 when done. Where several apply, the one that stands first in the call's order,
@@ -10,17 +11,22 @@
  * after the call, and nothing outside the slices is written.
  *
  * Answers. 16 comes before all else where an answer slice is too short: nothing at all is touched
- * then. Otherwise the answer is always written, zeros where the call is refused. An answer slice
+ * then. Otherwise the answer is always written, zeros where the call is refused, but for one thing: a
+ * reading of a line refused with 1, 22 or 23 still answers the place to go on from. An answer slice
  * may be longer than is needed; the rest of it is left alone. In the orders below this first 16 is
  * written "16 (answer)".
  *
- * A refused call leaves SSEQ, the record, the watch and the buffer for a frame as they came, but for
- * one thing: an arrival refused with 17 or 20 still stores the frame's more bit and noise in the
- * record. A frame written leaves the rest of its buffer as it was.
+ * A refused call leaves SSEQ, the record, the watch, the line and the buffer for a frame as they came,
+ * but for one thing: an arrival refused with 17 or 20 still stores the frame's more bit and noise in the
+ * record. A frame written leaves the rest of its buffer as it was, on a line to the bit.
  *
- * A frame is the octets between two flags, zero bits already taken out: 10 to 490 octets, and none
- * that is written here is longer than PELGRANT_FRAME_MAX. A wait is lent as two readings of a
- * 32-bit millisecond clock, from and to, which may roll over in between.
+ * A frame is the octets between two flags, zero bits taken out: 10 to 490 octets, and none that is made
+ * here is longer than PELGRANT_FRAME_MAX. Flags and zero bits are the work of the two calls of a line
+ * alone; to all the others a frame comes without them. A wait is lent as two readings of a 32-bit
+ * millisecond clock, from and to, which may roll over in between.
+ *
+ * A line is lent octets and a count of bits, lowest bit of each octet first: bit i of the line is bit
+ * i % 8 of octet i / 8. A flag is a zero, six ones and a zero.
  */
 #ifndef PELGRANT_H
 #define PELGRANT_H
@@ -202,6 +208,32 @@ uint8_t pelgrant_watch_start(uint8_t states, uint32_t refresh, uint32_t keepaliv
  * Untouched: where refused, the watch. */
 uint8_t pelgrant_watch_tell(uint64_t *watch, size_t watch_len, uint64_t clock, uint8_t event, uint8_t bits,
     uint8_t flag, uint64_t *answer, size_t answer_len);
+
+/* Puts a frame on a line: its bits, lowest of each octet first, with a zero behind each five ones, and a
+ * closing flag, which opens the next frame too. Only an empty line gets an opening flag first.
+ * Lent: line; count, the bits that it has so far, 0 where it is empty; the frame, any 10 to 490 octets.
+ * Back: answer[0] the count of bits after; the bits in line. A frame of n octets takes at most
+ *   8 * n + 8 * n / 5 + 16 of them.
+ * Refusals: 16 (answer), 14 for a count past the end of line, 1, 16 where line has no room for all of the
+ *   bits, the closing flag included.
+ * Untouched: frame; every bit of line that is not one of those put, those beside them in the first and
+ *   the last octet too; where refused, all of line. */
+uint8_t pelgrant_line_add(uint8_t *line, size_t line_len, size_t count, const uint8_t *frame, size_t frame_len,
+    uint64_t *answer, size_t answer_len);
+
+/* Takes the next frame off a line: what stands between the first flag from a place on that opens and the
+ * first flag or seven ones behind it, without the bit behind each five ones. A flag opens unless another
+ * begins on its last zero or directly behind it; a place inside a flag does not see it.
+ * Lent: line; count, the bits that it has; place, the bit to look from, 0 at first and then the place that
+ *   was answered last; out, for the frame: 490 octets hold any.
+ * Back: answer[0] 1, answer[1] the frame's length, answer[2] the place where its closing flag begins, and
+ *   the frame in out; or zeros and no refusal where nothing that is opened is ended before the count.
+ * Refusals: 16 (answer below 3), 14 for a count past the end of line or a place past the count, 22 where the
+ *   bits do not make whole octets, 23 where seven ones end them, an abort, 1, 16. After 22, 23 and 1
+ *   answer[2] is the place where the closing flag or the seven ones begin.
+ * Untouched: line; the rest of out; where refused or without a frame, all of it. */
+uint8_t pelgrant_line_next(const uint8_t *line, size_t line_len, size_t count, size_t place,
+    uint8_t *out, size_t out_len, uint64_t *answer, size_t answer_len);
 
 #ifdef __cplusplus
 }

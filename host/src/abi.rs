@@ -128,4 +128,8 @@ calls! {
     "pelgrant_watch_tell" watch_tell(
         watch: &mut [u64], clock: u64, event: u8, bits: u8, flag: u8, answer: &mut [u64],
     );
+    "pelgrant_line_add" line_add(line: &mut [u8], count: usize, frame: &[u8], answer: &mut [u64],);
+    "pelgrant_line_next" line_next(
+        line: &[u8], count: usize, place: usize, out: &mut [u8], answer: &mut [u64],
+    );
 }

@@ -9,7 +9,7 @@ const BLOCK: usize = 16;
 const HEADER: usize = 8;
 const CHECK: usize = 2;
 
-const FRAME_SIZES: RangeInclusive<usize> = 10..=490;
+pub(crate) const FRAME_SIZES: RangeInclusive<usize> = 10..=490;
 const ADDRESSES: RangeInclusive<u16> = 128..=8063;
 const VOICE: u8 = 239;
 const SIGNALLING: u8 = 3;
@@ -27,7 +27,7 @@ const PACKET_MS: u64 = 16;
 /// A frame is due at most this long after the clock, so `end` is at most 16 ms more.
 const AHEAD_MAX: u64 = 439;
 
-/// The refusal numbers of document 01, and 21 of document 02.
+/// The refusal numbers of document 01, and 21 to 23 of document 02.
 #[derive(Clone, Copy, Debug, PartialEq, Eq)]
 #[repr(u8)]
 pub enum Refusal {
@@ -52,6 +52,8 @@ pub enum Refusal {
     OtherKind = 19,
     Early = 20,
     NotOffered = 21,
+    PartOctet = 22,
+    Abort = 23,
 }
 
 use Refusal::*;

@@ -1,11 +1,13 @@
-//! Document 01 and the signalling watch in the flat form of `pelgrant.h`: numbers and lent slices.
+//! Document 01, the signalling watch and the line of bits in the flat form of `pelgrant.h`: numbers and
+//! lent slices.
 //!
 //! Only this form can be lent an answer slice too short (16), a step (13) or an event (21) that is
 //! none, or a record of another length or with a number that fits no field (14); they are judged
 //! before all else, in that order. Past 16 the answer is always written, zeros where the call is
-//! refused.
+//! refused, but for the place that a stretch of a line which is no frame ends at.
 
 use crate::document::{self, Departure, Endpoint, Kind, Packet, Refusal, Scheduled, Step, SAMPLES};
+use crate::line::{self, Frame, Unread};
 use crate::watch::{Cause, Conditioning, Event, Originating, Terminating, Told, Watch};
 use crate::Calls;
 
@@ -267,6 +269,7 @@ impl Calls for Document {
         let taken = document::taken(frame);
         answered(taken.map(|taken| [is_voice(taken.kind), taken.length as u64, taken.left.into()]), answer)
     }
+
     fn watch_start(&self, states: u8, refresh: u32, keepalive: u32, clock: u64, watch: &mut [u64]) -> u8 {
         if watch.len() != WATCH {
             return Refusal::Record as u8;
@@ -291,6 +294,26 @@ impl Calls for Document {
             Ok(answers)
         });
         answered(answers.map(told), answer)
+    }
+
+    fn line_add(&self, line: &mut [u8], count: usize, frame: &[u8], answer: &mut [u64]) -> u8 {
+        if answer.is_empty() {
+            return SHORT;
+        }
+        answered(line::add(line, count, frame).map(|count| [count as u64]), answer)
+    }
+
+    fn line_next(&self, line: &[u8], count: usize, place: usize, out: &mut [u8], answer: &mut [u64]) -> u8 {
+        if answer.len() < 3 {
+            return SHORT;
+        }
+        let (number, values) = match line::next(line, count, place, out) {
+            Ok(Some(Frame { length, end })) => (0, [1, length as u64, end as u64]),
+            Ok(None) => (0, [0; 3]),
+            Err(Unread { refusal, end }) => (refusal as u8, [0, 0, end as u64]),
+        };
+        answer[..3].copy_from_slice(&values);
+        number
     }
 }
 
@@ -409,5 +432,44 @@ mod tests {
         refused(12, &SOUND, 900, 1);
         refused(12, &SOUND, 900, 2);
         refused(12, &with(5, 255), 900, 0);
+    }
+
+    #[test]
+    fn lines_in_numbers() {
+        let add = |line: &mut [u8], count, frame: &[u8]| {
+            let mut answer = [UNUSED; 2];
+            let number = Document.line_add(line, count, frame, &mut answer);
+            (number, answer)
+        };
+        let mut line = [0xFF; 26];
+        assert_eq!(add(&mut line, 0, &[0; 10]), (0, [96, UNUSED]));
+        assert_eq!(add(&mut line, 96, &[0; 10]), (0, [184, UNUSED]));
+        assert_eq!(add(&mut line, 184, &[0; 10]), (16, [0, UNUSED]));
+        assert_eq!(add(&mut line, 209, &[0; 9]), (14, [0, UNUSED]));
+        assert_eq!(add(&mut line, 184, &[0; 9]), (1, [0, UNUSED]));
+        assert_eq!(line[22..], [0x7E, 0xFF, 0xFF, 0xFF]);
+        assert_eq!(Document.line_add(&mut line, usize::MAX, &[], &mut []), 16);
+
+        let next = |count, place, room| {
+            let (mut out, mut answer) = (vec![0xFF; room], [UNUSED; 4]);
+            let number = Document.line_next(&line, count, place, &mut out, &mut answer);
+            assert_eq!(out.iter().filter(|octet| **octet == 0).count() as u64, answer[1]);
+            (number, answer)
+        };
+        assert_eq!(next(184, 0, 12), (0, [1, 10, 88, UNUSED]));
+        assert_eq!(next(184, 88, 10), (0, [1, 10, 176, UNUSED]));
+        assert_eq!(next(184, 176, 10), (0, [0, 0, 0, UNUSED]));
+        assert_eq!(next(191, 176, 10), (23, [0, 0, 184, UNUSED]));
+        assert_eq!(next(184, 0, 9), (16, [0, 0, 0, UNUSED]));
+        assert_eq!(next(184, 185, 10), (14, [0, 0, 0, UNUSED]));
+        assert_eq!(next(209, 0, 10), (14, [0, 0, 0, UNUSED]));
+        let mut short = [UNUSED; 2];
+        assert_eq!((Document.line_next(&line, usize::MAX, 0, &mut [], &mut short), short), (16, [UNUSED; 2]));
+        // A flag, eight and nine bits, a flag.
+        for (between, number, end) in [([0x7E, 0x00, 0x7E, 0], 1, 16), ([0x7E, 0x00, 0xFC, 0], 22, 17)] {
+            let mut answer = [UNUSED; 3];
+            assert_eq!(Document.line_next(&between, 32, 0, &mut [], &mut answer), number);
+            assert_eq!(answer, [0, 0, end]);
+        }
     }
 }

@@ -1,8 +1,9 @@
-//! The host's side of the card: document 01 and the signalling watch in plain Rust, and the proved
-//! library beside them under one trait, so that the same program can call, compare and time both.
+//! The host's side of the card: document 01, the signalling watch and the line of bits in plain Rust, and
+//! the proved library beside them under one trait, so that the same program can call, compare and time both.
 
 pub mod document;
 pub mod flat;
+pub mod line;
 pub mod watch;
 
 #[cfg(feature = "card")]
@@ -37,4 +38,6 @@ pub trait Calls {
     fn taken(&self, frame: &[u8], answer: &mut [u64]) -> u8;
     fn watch_start(&self, states: u8, refresh: u32, keepalive: u32, clock: u64, watch: &mut [u64]) -> u8;
     fn watch_tell(&self, watch: &mut [u64], clock: u64, event: u8, bits: u8, flag: u8, answer: &mut [u64]) -> u8;
+    fn line_add(&self, line: &mut [u8], count: usize, frame: &[u8], answer: &mut [u64]) -> u8;
+    fn line_next(&self, line: &[u8], count: usize, place: usize, out: &mut [u8], answer: &mut [u64]) -> u8;
 }
