@@ -5,7 +5,7 @@
 
 use crate::document::Refusal::{self, Abort, Buffer, FrameSize, PartOctet, Record};
 use crate::document::{refuse_if, FRAME_SIZES};
-use std::iter::once;
+use std::ops::Range;
 
 const FLAG: [bool; 8] = [false, true, true, true, true, true, true, false];
 const SEVEN_ONES: [bool; 7] = [true; 7];
@@ -32,16 +32,18 @@ fn holds(line: &[u8], count: usize) -> bool {
 
 // ---- Writing ----
 
-/// A frame's bits with a zero behind each five ones.
-fn stuffed(frame: &[u8]) -> impl Iterator<Item = bool> + '_ {
+/// Hands on a frame's bits, with a zero behind each five ones.
+fn stuff(frame: &[u8], mut hand: impl FnMut(bool)) {
     let mut ones = 0;
-    (0..8 * frame.len()).flat_map(move |at| {
+    for at in 0..8 * frame.len() {
         let bit = bit(frame, at);
+        hand(bit);
         ones = if bit { ones + 1 } else { 0 };
-        let zero = (ones == ONES).then_some(false);
-        ones %= ONES;
-        once(bit).chain(zero)
-    })
+        if ones == ONES {
+            hand(false);
+            ones = 0;
+        }
+    }
 }
 
 /// Puts a frame on a line and gives the count after. Only an empty line gets an opening flag.
@@ -49,11 +51,18 @@ pub fn add(line: &mut [u8], count: usize, frame: &[u8]) -> Result<usize, Refusal
     refuse_if(!holds(line, count), Record)?;
     refuse_if(!FRAME_SIZES.contains(&frame.len()), FrameSize)?;
     let opening: &[bool] = if count == 0 { &FLAG } else { &[] };
-    let bits = || opening.iter().copied().chain(stuffed(frame)).chain(FLAG);
-    let after = count.checked_add(bits().count()).filter(|after| holds(line, *after)).ok_or(Buffer)?;
-    for (at, bit) in (count..after).zip(bits()) {
+    let mut taken = opening.len() + FLAG.len();
+    stuff(frame, |_| taken += 1);
+    let after = count.checked_add(taken).filter(|after| holds(line, *after)).ok_or(Buffer)?;
+
+    let mut at = count;
+    let mut hand = |bit| {
         put(line, at, bit);
-    }
+        at += 1;
+    };
+    opening.iter().for_each(|bit| hand(*bit));
+    stuff(frame, &mut hand);
+    FLAG.into_iter().for_each(hand);
     Ok(after)
 }
 
@@ -101,41 +110,53 @@ impl Bits<'_> {
     }
 }
 
-/// Bits without the one behind each five ones.
-fn unstuffed(bits: impl Iterator<Item = bool>) -> impl Iterator<Item = bool> {
+/// The bits between two places without the one behind each five ones.
+fn content(line: &[u8], between: Range<usize>) -> impl Iterator<Item = bool> + '_ {
     let mut ones = 0;
-    bits.filter(move |bit| {
+    between.map(|at| bit(line, at)).filter(move |bit| {
         let kept = ones < ONES;
         ones = if kept && *bit { ones + 1 } else { 0 };
         kept
     })
 }
 
-/// Copies the next frame from a place on to the front of `out`. None where no stretch is opened and ended.
+/// What one flag opens and the next, or seven ones, end.
+#[derive(Clone, Copy, Debug, PartialEq, Eq)]
+pub struct Stretch {
+    first: usize,
+    pub end: usize,
+    /// Those left when the zeros put in are out.
+    pub bits: usize,
+    pub aborted: bool,
+}
+
+/// The first from a place on; the line holds the count, and the place is not past it.
+pub fn stretch(line: &[u8], count: usize, place: usize) -> Option<Stretch> {
+    let bits = Bits { octets: line, count };
+    let first = (place..count).find(|at| bits.opens(*at))? + FLAG.len();
+    let end = (first..count).find(|at| bits.ends(*at))?;
+    Some(Stretch { first, end, bits: content(line, first..end).count(), aborted: !bits.flag(end) })
+}
+
+/// Copies the next frame from a place on to the front of `out`.
 pub fn next(line: &[u8], count: usize, place: usize, out: &mut [u8]) -> Result<Option<Frame>, Unread> {
     let refused = |refusal, end| Err(Unread { refusal, end });
     if !holds(line, count) || place > count {
         return refused(Record, 0);
     }
-    let bits = Bits { octets: line, count };
-    let Some(opening) = (place..count).find(|at| bits.opens(*at)) else { return Ok(None) };
-    let first = opening + FLAG.len();
-    let Some(end) = (first..count).find(|at| bits.ends(*at)) else { return Ok(None) };
-
-    let content = || unstuffed((first..end).map(|at| bit(line, at)));
-    let bit_count = content().count();
-    let length = bit_count / 8;
-    if bit_count % 8 != 0 {
+    let Some(Stretch { first, end, bits, aborted }) = stretch(line, count, place) else { return Ok(None) };
+    let length = bits / 8;
+    if bits % 8 != 0 {
         return refused(PartOctet, end);
     }
-    if !bits.flag(end) {
+    if aborted {
         return refused(Abort, end);
     }
     if !FRAME_SIZES.contains(&length) {
         return refused(FrameSize, end);
     }
     let Some(frame) = out.get_mut(..length) else { return refused(Buffer, 0) };
-    for (at, bit) in content().enumerate() {
+    for (at, bit) in content(line, first..end).enumerate() {
         put(frame, at, bit);
     }
     Ok(Some(Frame { length, end }))
@@ -162,8 +183,14 @@ mod tests {
         bits.map(|bit| if bit { '1' } else { '0' }).collect()
     }
 
+    fn stuffed(frame: &[u8]) -> String {
+        let mut bits = Vec::new();
+        stuff(frame, |bit| bits.push(bit));
+        text(bits.into_iter())
+    }
+
     fn ten() -> String {
-        text(stuffed(&TEN))
+        stuffed(&TEN)
     }
 
     /// What is read from a place on, a frame with its octets.
@@ -189,9 +216,9 @@ mod tests {
             ([0x00, 0xF8], "00000000 00011111 0"),
             ([0x00, 0xF0], "00000000 00001111"),
         ] {
-            assert_eq!(text(stuffed(&frame)), bits.replace(' ', ""), "{frame:?}");
+            assert_eq!(stuffed(&frame), bits.replace(' ', ""), "{frame:?}");
         }
-        assert_eq!(text(stuffed(&[0xFF; 490])), "111110".repeat(784));
+        assert_eq!(stuffed(&[0xFF; 490]), "111110".repeat(784));
     }
 
     #[test]
@@ -309,7 +336,7 @@ mod tests {
     #[test]
     fn ones_before_a_closing_flag() {
         // Without a zero between all five are the frame's.
-        let nine = text(stuffed(&TEN[..9]));
+        let nine = stuffed(&TEN[..9]);
         let frame = [&TEN[..9], &[0xF8]].concat();
         assert_eq!(read(&format!("{F}{nine}00011111{F}"), 0), Ok(Some((frame.clone(), 88))));
         assert_eq!(read(&format!("{F}{nine}000111110{F}"), 0), Ok(Some((frame, 89))));
@@ -318,7 +345,7 @@ mod tests {
 
     #[test]
     fn the_reader_refuses_in_its_order() {
-        let octets = |count: usize| text(stuffed(&vec![0; count]));
+        let octets = |count: usize| stuffed(&vec![0; count]);
         for count in [0, 1, 9, 491, 1000] {
             let end = 8 + 8 * count;
             for more in 1..8 {

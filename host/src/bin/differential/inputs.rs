@@ -7,11 +7,14 @@ use pelgrant_host::document::{check_sequence, Coding};
 pub const CLOCK_MAX: u64 = 1 << 62;
 pub const LEGAL_CODINGS: [u8; 17] = [0, 1, 2, 3, 4, 5, 6, 7, 8, 9, 10, 11, 12, 13, 20, 21, 24];
 
-/// The refusals that only the flat form has, counted apart from the calls' own.
-pub const FLAT_13: usize = 22;
-pub const FLAT_14: usize = 23;
-pub const FLAT_16: usize = 24;
-pub const FLAT_21: usize = 25;
+/// The greatest of the calls' own refusals.
+const LAST: usize = 23;
+/// The refusals that only the flat form has, counted apart from those.
+pub const FLAT_13: usize = LAST + 1;
+pub const FLAT_14: usize = LAST + 2;
+pub const FLAT_16: usize = LAST + 3;
+pub const FLAT_21: usize = LAST + 4;
+pub const OUTCOMES: usize = LAST + 5;
 
 /// The numbers that an input is made to be refused by.
 #[derive(Clone, Copy)]

@@ -1,13 +1,14 @@
 //! Calls the proved library and the independent implementation with the same inputs and compares
 //! all that comes back: the number, the answers, and every octet lent and around it.
 //!
-//! `differential [INPUTS [SEED]]`: INPUTS for each call, more for the events of a watch, and a tenth
-//! as many chains.
+//! `differential [INPUTS [SEED]]`: INPUTS for each call, more for the events of a watch, fewer for the
+//! calls of a line, and a tenth as many chains.
 
 mod arrivals;
 mod cases;
 mod inputs;
 mod lent;
+mod lines;
 mod random;
 mod table;
 mod tally;
@@ -16,6 +17,7 @@ use arrivals::Arrivals;
 use cases::Cases;
 use inputs::{Draft, Faults, FLAT_13, FLAT_14, FLAT_16, FLAT_21};
 use lent::Lent;
+use lines::Reading;
 use pelgrant_host::abi::Card;
 use pelgrant_host::document::Coding;
 use pelgrant_host::flat::Document;
@@ -27,6 +29,8 @@ use tally::{Call, Tally};
 const INPUTS: u64 = 1_000_000;
 /// Events of a watch for each input of another call: they come in long sequences.
 const EVENTS: u64 = 6;
+/// Inputs of another call for each of a line: their bits are many.
+const LINES: u64 = 8;
 const SEED: u64 = 764;
 const SHOWN: u64 = 10;
 
@@ -41,6 +45,14 @@ struct Run {
     /// The watch that the last event left.
     watch: [u64; 9],
     cases: Cases,
+    /// The line and the count that the last frame put on one left.
+    begun: (Vec<u8>, usize),
+    /// The line that the last reading left, with the place answered.
+    reading: Option<Reading>,
+    line_cases: lines::Cases,
+    /// Lines written and read back, and lines read on behind any bits.
+    read_back: u64,
+    read_on: u64,
 }
 
 /// What a call lent too little or of the wrong shape is refused by, if at all.
@@ -422,6 +434,110 @@ impl Run {
             Call::Taken => self.taken(),
             Call::WatchStart => self.watch_start(),
             Call::WatchTell => self.watch_tell(),
+            Call::LineAdd => self.line_add(),
+            Call::LineNext => self.line_next(),
+        }
+    }
+
+    /// A frame on the line that the last one left, or on another.
+    fn line_add(&mut self) {
+        let random = &mut self.random;
+        let faults = Faults::among(random, Call::LineAdd.order());
+        let length = lines::frame_length(random, faults.has(1));
+        let frame = match faults.has(1) && random.one_in(500) {
+            true => random.octets(1 << 20),
+            false => lines::frame(random, length),
+        };
+        let (mut octets, mut count) = self.begun.clone();
+        if random.one_in(2) || faults.has(14) || faults.has(16) {
+            count = random.pick(&[0, 1, 1]) * random.size_below(80);
+            let takes = lines::taken_by(&frame, count);
+            let least = (count + takes).div_ceil(8);
+            octets = match faults.has(16) {
+                // One octet less than it takes, or no more than there is on the line.
+                true if random.one_in(2) => random.octets(count.div_ceil(8)),
+                true => random.octets((least - 1).max(count.div_ceil(8))),
+                false => {
+                    let more = random.pick(&[0, 0, 1, 200]);
+                    random.octets(least + more)
+                }
+            };
+            if faults.has(14) {
+                count = lines::count_past(random, octets.len());
+            }
+        }
+        let (line, lent_frame) = (lent::octets(random, &octets), lent::octets(random, &frame));
+        let lent = Lent { line, frame: lent_frame, answer: self.answer(1, faults), ..Lent::default() };
+        let (number, after) = self.compare(Call::LineAdd, flat(faults), &[count as u64], lent, |calls, lent| {
+            calls.line_add(lent.line.part_mut(), count, lent.frame.part(), lent.answer.part_mut())
+        });
+        if flat(faults).is_none() {
+            self.line_cases.met_adding(octets.len(), count, frame.len(), lines::taken_by(&frame, count), number);
+            if number == 0 {
+                self.begun = (after.line.part().to_vec(), after.answer.part()[0] as usize);
+            }
+        }
+    }
+
+    /// The line that the last reading left, from the place answered on, or another.
+    fn line_next(&mut self) {
+        let random = &mut self.random;
+        let faults = Faults::among(random, Call::LineNext.order());
+        let going_on = self.reading.take().filter(|_| faults.none());
+        let reading = going_on.unwrap_or_else(|| Reading::draw(random, faults));
+        let reading = if faults.has(14) { reading.past(random) } else { reading };
+        let room = if faults.has(14) { 490 } else { reading.room(random, faults.has(16)) };
+        let (line, out) = (lent::octets(random, &reading.octets), lent::buffer(random, room));
+        let lent = Lent { line, out, answer: self.answer(3, faults), ..Lent::default() };
+        let (count, place) = (reading.count, reading.place);
+        let numbers = [count as u64, place as u64];
+        let (number, after) = self.compare(Call::LineNext, flat(faults), &numbers, lent, |calls, lent| {
+            calls.line_next(lent.line.part(), count, place, lent.out.part_mut(), lent.answer.part_mut())
+        });
+        if flat(faults).is_none() {
+            self.line_cases.met_reading(&reading, number);
+            let place = after.answer.part()[2] as usize;
+            self.reading = (place > 0).then(|| reading.from(place));
+        }
+    }
+
+    /// What is written on a line begun empty reads back as the same frames, with nothing between.
+    fn read_back(&mut self) {
+        let random = &mut self.random;
+        let frames: Vec<Vec<u8>> = (0..1 + random.below(8))
+            .map(|_| {
+                let length = lines::frame_length(random, false);
+                lines::frame(random, length)
+            })
+            .collect();
+        let room = frames.iter().map(|frame| lines::taken_by(frame, 0)).sum::<usize>().div_ceil(8);
+        let (mut octets, mut count) = (random.octets(room), [0]);
+        let added = frames.iter().all(|frame| Card.line_add(&mut octets, count[0] as usize, frame, &mut count) == 0);
+        let read = read_all(&octets, count[0] as usize, 0);
+        self.read_back += 1;
+        if !added || read.iter().any(|read| read.number != 0) || !read.iter().map(|read| &read.frame).eq(&frames) {
+            self.differs(|| println!("different: a line read back\n  frames {frames:?}\n  read {read:?}"));
+        }
+    }
+
+    /// Behind any bits at all a flag that they do not touch opens what it would by itself, whatever place
+    /// before it is read from.
+    fn read_on(&mut self) {
+        let random = &mut self.random;
+        let rest = Reading::draw(random, Faults::NONE);
+        let mut behind = vec![false, true, true, true, true, true, true, false];
+        behind.extend(lines::bits_of(&rest.octets, rest.count));
+        let damage = lines::any_bits(random, 300);
+        let both = [&damage[..], &behind].concat();
+        let (octets, alone) = (lines::octets_of(random, &both, 1), lines::octets_of(random, &behind, 1));
+        let place = lines::place(random, damage.len());
+        let read = read_all(&octets, both.len(), place);
+        let mut right = read_all(&alone, behind.len(), 0);
+        right.iter_mut().for_each(|read| read.place += damage.len());
+        let before = read.iter().take_while(|read| read.place <= damage.len()).count();
+        self.read_on += 1;
+        if read[before..] != right {
+            self.differs(|| println!("different: read on behind {damage:?}\n  read {read:?}\n  right {right:?}"));
         }
     }
 
@@ -465,6 +581,30 @@ impl Run {
                 println!("  chain {chained:?}\n  one node {single:?}\n  read {read:?} {answer:?} {heard:?}");
             });
         }
+    }
+}
+
+/// A frame or a refused stretch of a line, with the place answered.
+#[derive(Debug, PartialEq)]
+struct Read {
+    number: u8,
+    frame: Vec<u8>,
+    place: usize,
+}
+
+/// All that the card reads from a place on, until there is no frame.
+fn read_all(line: &[u8], count: usize, place: usize) -> Vec<Read> {
+    let (mut all, mut place) = (Vec::new(), place);
+    loop {
+        let (mut out, mut answer) = ([0; 490], [0; 3]);
+        let number = Card.line_next(line, count, place, &mut out, &mut answer);
+        let [_, length, end] = answer.map(|value| value as usize);
+        // Each place answered is behind the one before, or the card does not end.
+        if end <= place {
+            return all;
+        }
+        place = end;
+        all.push(Read { number, frame: out[..length.min(490)].to_vec(), place });
     }
 }
 
@@ -517,29 +657,44 @@ fn main() -> ExitCode {
         arrivals: Arrivals::new(),
         watch: [16, 10_000, 25_000, 0, 0, 0, 0, 0, 0],
         cases: Cases::new(),
+        begun: (Vec::new(), 0),
+        reading: None,
+        line_cases: lines::Cases::new(),
+        read_back: 0,
+        read_on: 0,
     };
     for call in Call::ALL {
-        let times = if call == Call::WatchTell { EVENTS * inputs } else { inputs };
+        let times = match call {
+            Call::WatchTell => EVENTS * inputs,
+            Call::LineAdd | Call::LineNext => inputs / LINES,
+            _ => inputs,
+        };
         (0..times).for_each(|_| run.one_input(call));
     }
     (0..inputs / 10).for_each(|_| run.chain());
+    (0..inputs / 50).for_each(|_| run.read_back());
+    (0..inputs / 50).for_each(|_| run.read_on());
 
     println!("Seed {seed}; . where there can be none\n");
     let calls = ("Inputs by call and refusal", &run.tally.table);
     let mut amiss = Vec::new();
-    for (title, table) in std::iter::once(calls).chain(run.arrivals.tables()).chain(run.cases.tables()) {
+    let others = run.arrivals.tables().into_iter().chain(run.cases.tables()).chain(run.line_cases.tables());
+    for (title, table) in std::iter::once(calls).chain(others) {
         println!("{title}");
         table.print();
         println!();
         amiss.extend(table.amiss());
     }
     println!("Chains of 1 to 8 nodes against one node: {}", run.chains);
+    println!("Lines of 1 to 8 frames read back: {}", run.read_back);
+    println!("Lines read on behind any bits: {}", run.read_on);
     amiss.iter().for_each(|cell| println!("amiss: {cell}"));
     if !amiss.is_empty() {
         println!("amiss: {} cells of the tables", amiss.len());
     }
     let failed = run.different + amiss.len() as u64;
-    println!("host: {} compared, {failed} different", run.tally.total() + run.chains);
+    let compared = run.tally.total() + run.chains + run.read_back + run.read_on;
+    println!("host: {compared} compared, {failed} different");
     if failed == 0 {
         ExitCode::SUCCESS
     } else {

@@ -1,6 +1,6 @@
 //! Counts which call reached which refusal, and knows which pairs must be reached.
 
-use crate::inputs::{FLAT_13, FLAT_14, FLAT_16, FLAT_21};
+use crate::inputs::{FLAT_13, FLAT_14, FLAT_16, FLAT_21, OUTCOMES};
 use crate::table::Table;
 
 #[derive(Clone, Copy, Debug, PartialEq, Eq)]
@@ -19,10 +19,11 @@ pub enum Call {
     Taken,
     WatchStart,
     WatchTell,
+    LineAdd,
+    LineNext,
 }
 
-pub const CALLS: usize = 14;
-const OUTCOMES: usize = 26;
+pub const CALLS: usize = 16;
 
 impl Call {
     pub const ALL: [Call; CALLS] = [
@@ -40,6 +41,8 @@ impl Call {
         Call::Taken,
         Call::WatchStart,
         Call::WatchTell,
+        Call::LineAdd,
+        Call::LineNext,
     ];
 
     pub fn name(self) -> &'static str {
@@ -58,6 +61,8 @@ impl Call {
             Call::Taken => "taken",
             Call::WatchStart => "watch_start",
             Call::WatchTell => "watch_tell",
+            Call::LineAdd => "line_add",
+            Call::LineNext => "line_next",
         }
     }
 
@@ -77,6 +82,8 @@ impl Call {
             Call::Taken => &[FLAT_16, 1, 2, 3, 4, 5, 6, 7, 8, 9],
             Call::WatchStart => &[FLAT_14, 21, 18],
             Call::WatchTell => &[FLAT_16, FLAT_21, FLAT_14, 21, 14, 18, 12],
+            Call::LineAdd => &[FLAT_16, 14, 1, 16],
+            Call::LineNext => &[FLAT_16, 14, 22, 23, 1, 16],
         }
     }
 
