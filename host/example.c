@@ -1,6 +1,7 @@
 /* Two bursts of speech from an origin through two nodes to an endpoint, as an operator would want to
  * see them: what each frame weighs on the way, when it is played and what is left of the voice. The
- * stop packet of the second comes late. And the signalling of a trunk that dies and comes back. */
+ * stop packet of the second comes late. The signalling of a trunk that dies and comes back. And two
+ * frames on a line of bare bits. */
 
 #include <stdio.h>
 #include <string.h>
@@ -16,11 +17,12 @@ typedef struct {
 } frame;
 
 /* What the two ends of a circuit keep: the origin its number, the endpoint its record, the time on the
- * play clock and the samples last played. */
+ * play clock, the samples last played and the frame that came last. */
 typedef struct {
     uint8_t sseq;
     uint64_t record[PELGRANT_RECORD], clock;
     uint8_t played[PELGRANT_SAMPLES];
+    frame came;
 } circuit;
 
 /* A slow rise and fall, a little further on with each packet. */
@@ -87,6 +89,39 @@ static int trunk(void)
     return 0;
 }
 
+/* The voice frame and a signalling frame are put on a line behind one another, and taken off again. */
+static int bare_bits(const frame *voice)
+{
+    uint8_t line[256], out[PELGRANT_FRAME_MAX];
+    uint64_t answer[3], count = 0, place = 0;
+    frame put[2] = {*voice, {{0}, 0}};
+    uint8_t number = pelgrant_signal_write(8, 0, 0, 0, 4711, put[1].octets, sizeof put[1].octets, answer, 1);
+    if (number != 0)
+        return refused("the signalling writer", number);
+    put[1].length = (size_t)answer[0];
+
+    printf("\nTwo frames on a line of bits\n\n");
+    for (int n = 0; n < 2; n++) {
+        number = pelgrant_line_add(line, sizeof line, (size_t)count, put[n].octets, put[n].length, &count, 1);
+        if (number != 0)
+            return refused("the line's writer", number);
+        printf("put on: %2zu octets, %llu bits on the line\n", put[n].length, (unsigned long long)count);
+    }
+    for (int n = 0;; n++) {
+        number = pelgrant_line_next(line, sizeof line, (size_t)count, (size_t)place, out, sizeof out, answer, 3);
+        if (number != 0)
+            return refused("the line's reader", number);
+        if (answer[0] == 0)
+            break;
+        int same = n < 2 && answer[1] == put[n].length && memcmp(out, put[n].octets, put[n].length) == 0;
+        place = answer[2]; /* the closing flag opens the next frame */
+        printf("taken off: %2llu octets, %s; closing flag at bit %llu\n", (unsigned long long)answer[1],
+            same ? "the same" : "others", (unsigned long long)place);
+    }
+    printf("no frame from there on\n");
+    return 0;
+}
+
 static void heading(const char *title)
 {
     printf("%s\n\nstep   sequence  octets sent  after node 1  after node 2  delay  arrives   due  dropped  reset"
@@ -121,6 +156,7 @@ static int packet(circuit *line, uint64_t begins, int place, uint32_t wait)
     number = node(&passing, busy[place], made + 9, made + 9 + wait, 4711);
     if (number != 0)
         return refused("node 2", number);
+    line->came = passing;
     line->clock = begins + 16 * (uint64_t)place + 9 + wait;
     printf("  %12zu  %5d  %7llu", passing.length, passing.octets[5], (unsigned long long)line->clock);
 
@@ -166,7 +202,7 @@ static int play_without_packet(const circuit *line)
 int main(void)
 {
     static const uint32_t waits[PACKETS] = {12, 20, 64, 58, 47, 31};
-    circuit line = {0, {0}, 0, {0}};
+    circuit line = {0, {0}, 0, {0}, {{0}, 0}};
     uint8_t number = pelgrant_fresh(BUILD_OUT, line.record, PELGRANT_RECORD);
     if (number != 0)
         return refused("the endpoint", number);
@@ -187,5 +223,5 @@ int main(void)
     if (play_without_packet(&line) != 0 || packet(&line, 2000, PACKETS - 1, 140) != 0
         || play_without_packet(&line) != 0)
         return 1;
-    return trunk();
+    return trunk() != 0 || bare_bits(&line.came) != 0;
 }
