@@ -4,10 +4,13 @@
 pub mod document;
 pub mod flat;
 pub mod line;
+pub mod random;
 pub mod watch;
 
 #[cfg(feature = "card")]
 pub mod abi;
+#[cfg(feature = "card")]
+pub mod foreign;
 #[cfg(feature = "card")]
 pub mod yardstick;
 

@@ -1,7 +1,7 @@
 //! What the calls are tried with: right in all, wrong in one thing, or wrong in several, with the
 //! values at and just past each limit oftener than the rest.
 
-use crate::random::Random;
+use pelgrant_host::random::Random;
 use pelgrant_host::document::{check_sequence, Coding};
 
 pub const CLOCK_MAX: u64 = 1 << 62;

@@ -1,7 +1,7 @@
 //! What a call is lent, with a guard before and behind each slice, so that octets written
 //! outside it are seen as well.
 
-use crate::random::Random;
+use pelgrant_host::random::Random;
 use std::fmt::{Debug, Formatter};
 use std::ops::Range;
 

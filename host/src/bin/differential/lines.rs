@@ -2,7 +2,7 @@
 //! And which cases of them were met.
 
 use crate::inputs::{room, Faults};
-use crate::random::Random;
+use pelgrant_host::random::Random;
 use crate::table::{crossed, Table};
 use pelgrant_host::line::{self, Stretch};
 use std::cmp::Ordering;

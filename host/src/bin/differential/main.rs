@@ -9,7 +9,6 @@ mod cases;
 mod inputs;
 mod lent;
 mod lines;
-mod random;
 mod table;
 mod tally;
 
@@ -21,8 +20,8 @@ use lines::Reading;
 use pelgrant_host::abi::Card;
 use pelgrant_host::document::Coding;
 use pelgrant_host::flat::Document;
+use pelgrant_host::random::Random;
 use pelgrant_host::Calls;
-use random::Random;
 use std::process::ExitCode;
 use tally::{Call, Tally};
 
