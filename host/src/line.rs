@@ -17,12 +17,8 @@ fn bit(octets: &[u8], at: usize) -> bool {
 }
 
 fn put(octets: &mut [u8], at: usize, bit: bool) {
-    let mask = 1 << (at % 8);
-    if bit {
-        octets[at / 8] |= mask;
-    } else {
-        octets[at / 8] &= !mask;
-    }
+    let others = octets[at / 8] & !(1 << (at % 8));
+    octets[at / 8] = others | u8::from(bit) << (at % 8);
 }
 
 /// Asked in octets: eight times a length may be too great a number.

@@ -11,9 +11,11 @@ mod works;
 use pelgrant_host::abi::{Card, Plain};
 use pelgrant_host::document::check_sequence;
 use pelgrant_host::flat::Document;
+use pelgrant_host::foreign::{NAMES, STACKS};
+use pelgrant_host::random::Random;
 use pelgrant_host::yardstick::Yardstick;
 use pelgrant_host::Calls;
-use timing::{best, Work, ROUND, ROUNDS};
+use timing::{best, best_of, Work, ROUND, ROUNDS};
 use works::*;
 
 /// Packets of 16 ms.
@@ -335,6 +337,87 @@ fn check_table(yardstick: Yardstick) {
     }
 }
 
+/// A line of signalling frames of so many octets, with any octets or ones behind their head and the check over
+/// all of them, which link and the foreign stacks alike work out. They are too many to be known by heart: a
+/// processor soon foresees the branches of a few short ones.
+fn line_of(octets: usize, all_ones: bool) -> Line {
+    let count = (16_000 / octets).clamp(32, 200);
+    let mut random = Random::from_seed(octets as u64);
+    let frame = |_| {
+        let mut frame = signalling();
+        frame.truncate(8);
+        frame[6..].copy_from_slice(&random.octets(2));
+        frame.extend(if all_ones { vec![0xFF; octets - 10] } else { random.octets(octets - 10) });
+        let check = check_sequence(&frame);
+        frame.extend(check.to_le_bytes());
+        frame
+    };
+    Line::of(Document, (0..count).map(frame).collect())
+}
+
+/// The calls of a line beside the plain Rust and the foreign stacks, with those that took longer.
+#[derive(Default)]
+struct Lines {
+    above: Vec<String>,
+}
+
+impl Lines {
+    /// The works are the card's, the plain Rust's, the card's with link, and those of the stacks.
+    fn row(&mut self, call: &str, what: &str, line: &Line, ours: [Work; 3], theirs: Vec<(&str, Work)>) {
+        let (names, theirs): (Vec<&str>, Vec<Work>) = theirs.into_iter().unzip();
+        let times = best_of(ours.into_iter().chain(theirs).collect());
+        let a_frame: Vec<f64> = times.iter().map(|time| time / line.frames.len() as f64).collect();
+        let &[card, rust, with_link, ref theirs @ ..] = &a_frame[..] else { unreachable!() };
+        let an_octet = |time: f64| time / line.frames[0].len() as f64;
+        let of_stack = |name: &str| {
+            let place = names.iter().position(|known| *known == name);
+            place.map_or("-".to_string(), |place| format!("{:.2}", an_octet(theirs[place])))
+        };
+        println!(
+            "| {call} | {what} | {card:.1} | {rust:.1} | {:.2} | {:.2} | {:.2} | {} | {} |",
+            ratio(card, rust),
+            an_octet(card),
+            an_octet(with_link),
+            of_stack(NAMES[0]),
+            of_stack(NAMES[1])
+        );
+        let quickest = theirs.iter().copied().fold(f64::INFINITY, f64::min);
+        if ratio(card, rust) > DONE_MARK || card > quickest {
+            self.above.push(above(&format!("{call}, {what}"), card, rust));
+        }
+    }
+
+    fn table(&mut self) {
+        println!(
+            "| Call | Frame | Card, ns | Rust, ns | Ratio | Card, ns an octet | with link, ns an octet \
+             | {}, ns an octet | {}, ns an octet |",
+            NAMES[0], NAMES[1]
+        );
+        println!("|---|---|---:|---:|---:|---:|---:|---:|---:|");
+        for (octets, all_ones) in [(10, false), (74, false), (138, false), (490, false), (138, true)] {
+            let line = &line_of(octets, all_ones);
+            let what = format!("{octets} octets{}", if all_ones { ", all ones" } else { "" });
+            let [card, rust] = both!(line_add, line, false);
+            let writers = STACKS.iter().filter(|stack| octets <= stack.writes);
+            let theirs = writers.map(|stack| (stack.name, foreign_write(stack, line))).collect();
+            self.row("line_add", &what, line, [card, rust, line_add(Card, line, true)], theirs);
+            let [card, rust] = both!(line_next, line, false);
+            let readers = STACKS.iter().filter(|stack| octets <= stack.reads);
+            let theirs = readers.map(|stack| (stack.name, foreign_read(stack, line))).collect();
+            self.row("line_next", &what, line, [card, rust, line_next(Card, line, true)], theirs);
+        }
+    }
+}
+
+/// What the columns of the foreign stacks are, or that there are none.
+fn foreign_note() -> String {
+    let missing: Vec<&str> = NAMES.into_iter().filter(|name| STACKS.iter().all(|stack| stack.name != *name)).collect();
+    match missing.is_empty() {
+        true => String::new(),
+        false => format!(" Not installed, and left out: {}.", missing.join(" and ")),
+    }
+}
+
 fn list(title: &str, rows: &[String]) {
     println!("{title}:\n");
     for row in rows {
@@ -394,6 +477,21 @@ fn main() {
          the bare sum over them, with one table octet by octet and with four tables four octets at a step.\n"
     );
     check_table(yardstick);
+    println!("\n## Lines of bits\n");
+    println!(
+        "Each line has 32 to 200 signalling frames of so many octets, any octets behind their head, one flag \
+         between two, and all of them are put on or taken off in turn; nanoseconds a call are a frame's share, \
+         those an octet that divided by the frame's octets, its check included. isdnhdlc is libosmocore's and \
+         spandsp its hdlc, both as the system has them, called from C on the same frames. They work out a check \
+         over all octets, which the calls of a line do not: with link is the card with a call of link on each \
+         frame besides, which works out the same check and judges the head too. spandsp is spared two things: \
+         its frames are not copied out, and its lines come in its own order of bits, highest first. It reads no \
+         frame of more than 404 octets and writes none of more than 402. isdnhdlc begins a second flag behind a \
+         frame that does not end with an octet. The Rust goes bit by bit.{}\n",
+        foreign_note()
+    );
+    let mut lines = Lines::default();
+    lines.table();
     println!("\n## Above the marks\n");
     list(
         &format!("Done, above {DONE_MARK:.2} times the Rust, or {SAMPLES_MARK:.2} times for send, read and the arrivals"),
@@ -407,4 +505,6 @@ fn main() {
         .map(|row| format!("{}; one check by this call {:.1} ns", above(&row.what, row.card, row.rust), row.check))
         .collect();
     list(&format!("Refused, above {REFUSED_MARK:.2} times the Rust or above one check by the same call"), &above);
+    println!();
+    list(&format!("Lines, above {DONE_MARK:.2} times the Rust or above a foreign stack"), &lines.above);
 }

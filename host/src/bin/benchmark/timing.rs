@@ -17,12 +17,30 @@ fn nanoseconds(times: u64, work: &mut Work) -> f64 {
 }
 
 /// The best of several rounds for each of the works, taken in turn so that all meet the same machine.
-pub fn best<const N: usize>(mut works: [Work; N]) -> [f64; N] {
-    let times = works.each_mut().map(|work| (ROUND.as_nanos() as f64 / nanoseconds(1000, work)) as u64 + 1);
-    let mut best = [f64::INFINITY; N];
+pub fn best<const N: usize>(works: [Work; N]) -> [f64; N] {
+    best_of(works.into()).try_into().unwrap()
+}
+
+/// How often a work is done in a round, found by doing it for at least one.
+fn in_a_round(work: &mut Work) -> u64 {
+    let round = ROUND.as_nanos() as f64;
+    let mut times = 1;
+    loop {
+        let once = nanoseconds(times, work);
+        if times as f64 * once >= round {
+            return (round / once) as u64 + 1;
+        }
+        times *= 2;
+    }
+}
+
+/// The same of as many works as there are.
+pub fn best_of(mut works: Vec<Work>) -> Vec<f64> {
+    let times: Vec<u64> = works.iter_mut().map(in_a_round).collect();
+    let mut best = vec![f64::INFINITY; works.len()];
     for _ in 0..ROUNDS {
-        for ((work, times), best) in works.iter_mut().zip(times).zip(&mut best) {
-            *best = best.min(nanoseconds(times, work));
+        for ((work, times), best) in works.iter_mut().zip(&times).zip(&mut best) {
+            *best = best.min(nanoseconds(*times, work));
         }
     }
     best

@@ -4,6 +4,7 @@
 
 use crate::timing::{repeated, Work};
 use pelgrant_host::document::{Coding, SAMPLES};
+use pelgrant_host::foreign::Stack;
 use pelgrant_host::yardstick::Yardstick;
 use pelgrant_host::Calls;
 
@@ -129,6 +130,74 @@ pub fn watch_tell<C: Calls + 'static>(calls: C, number: u8, watch: [u64; 9], eve
         *clock += 3;
         calls.watch_tell(watch, *clock, *event, *clock as u8 & 15, *flag, answer)
     })
+}
+
+// ---- Lines: all frames of one at a time ----
+
+/// Frames on a line, one behind the other.
+#[derive(Clone)]
+pub struct Line {
+    pub frames: Vec<Vec<u8>>,
+    octets: Vec<u8>,
+    count: usize,
+}
+
+impl Line {
+    pub fn of<C: Calls>(calls: C, frames: Vec<Vec<u8>>) -> Line {
+        let room = frames.iter().map(|frame| 2 * frame.len() + 2).sum();
+        let (mut octets, mut count) = (vec![0; room], [0]);
+        for frame in &frames {
+            assert_eq!(calls.line_add(&mut octets, count[0] as usize, frame, &mut count), 0);
+        }
+        let count = count[0] as usize;
+        octets.truncate(count.div_ceil(8));
+        Line { frames, octets, count }
+    }
+}
+
+/// Puts all frames on an empty line, with `check` after a link of each.
+pub fn line_add<C: Calls + 'static>(calls: C, line: &Line, check: bool) -> Work {
+    let lent = (line.frames.clone(), line.octets.clone(), vec![0], vec![0; 2]);
+    repeated(0, lent, move |(frames, octets, count, answer)| {
+        count[0] = 0;
+        frames.iter().fold(0, |refused, frame| {
+            let link = if check { calls.link(frame, answer) } else { 0 };
+            refused | link | calls.line_add(octets, count[0] as usize, frame, count)
+        })
+    })
+}
+
+/// Takes all frames off a line, with `check` before a link of each.
+pub fn line_next<C: Calls + 'static>(calls: C, line: &Line, check: bool) -> Work {
+    let lent = (line.octets.clone(), line.count, line.frames.len(), vec![0; 490], vec![0; 3], vec![0; 2]);
+    repeated(0, lent, move |(octets, count, frames, out, answer, link_answer)| {
+        answer[2] = 0;
+        (0..*frames).fold(0, |refused, _| {
+            let number = calls.line_next(octets, *count, answer[2] as usize, out, answer);
+            let link = if check { calls.link(&out[..answer[1] as usize], link_answer) } else { 0 };
+            refused | number | link
+        })
+    })
+}
+
+/// The same frames by a foreign stack, which makes the last two octets of each itself, on the shortest line
+/// that it gets them on: isdnhdlc begins a second flag behind a frame that does not end with an octet.
+pub fn foreign_write(stack: &'static Stack, line: &Line) -> Work {
+    let frames: Vec<&[u8]> = line.frames.iter().map(|frame| &frame[..frame.len() - 2]).collect();
+    let lengths: Vec<usize> = frames.iter().map(|frame| frame.len()).collect();
+    let (count, frames) = (frames.len(), frames.concat());
+    let holds = |room: &usize| stack.write_turned(&frames, &lengths, 1, &mut vec![0; *room]) == count;
+    let room = (line.octets.len() + 1..).find(holds).unwrap();
+    repeated(count as u8, (frames, lengths, vec![0; room]), move |(frames, lengths, octets)| {
+        stack.write_turned(frames, lengths, 1, octets) as u8
+    })
+}
+
+/// The same line by a foreign stack, in its order of bits already.
+pub fn foreign_read(stack: &'static Stack, line: &Line) -> Work {
+    let mut octets = line.octets.clone();
+    stack.turn(&mut octets);
+    repeated(line.frames.len() as u8, octets, move |octets| stack.count_turned(octets) as u8)
 }
 
 // ---- Bare work in C, hidden from the compiler in the same way ----
