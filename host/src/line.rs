@@ -189,8 +189,11 @@ mod tests {
         stuffed(&TEN)
     }
 
-    /// What is read from a place on, a frame with its octets.
-    fn read(from: &str, place: usize) -> Result<Option<(Vec<u8>, usize)>, (Refusal, usize)> {
+    /// A frame, and where its closing flag begins.
+    type Octets = (Vec<u8>, usize);
+
+    /// What is read from a place on.
+    fn read(from: &str, place: usize) -> Result<Option<Octets>, (Refusal, usize)> {
         let ((octets, count), mut out) = (line(from), [UNUSED; 500]);
         let result = next(&octets, count, place, &mut out);
         let written = if let Ok(Some(frame)) = result { frame.length } else { 0 };

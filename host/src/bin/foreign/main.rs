@@ -5,14 +5,15 @@
 //! that those stacks expect.
 //!
 //! What they do otherwise than the card, as far as it was found:
-//! - isdnhdlc does not ask for whole octets: a frame with one bit too many is a frame to it, and one with two
-//!   too few may be, for it fills them up out of the closing flag. After an abort it goes on collecting until
-//!   the next flag, and may complain again there. Ones directly behind a flag it may not complain of.
+//! - isdnhdlc does not ask for whole octets: a frame with one bit too many is a frame to it, and one with up
+//!   to six too few may be, for it fills them up out of the closing flag. After an abort it goes on collecting
+//!   until the next flag, and may complain again there. Of ones directly behind a flag it may not complain.
 //! - spandsp takes the first zero of a closing flag for one that was put in where five ones stand directly
 //!   before it: it refuses such a frame for its length, and takes one that has a one too many. An abort it
-//!   sees at the zero behind the ones. A line that begins with six ones and a zero begins with a flag to it.
-//! - spandsp reads no frame of more than 404 octets with its check and writes none of more than 402.
-//! - Neither has a least length: isdnhdlc reads from one octet before the check, spandsp from none.
+//!   sees at the zero behind the ones.
+//! - To both a line that begins with six ones and a zero begins with a flag.
+//! - Neither has a least length: isdnhdlc reads from one octet before the check, spandsp from none. spandsp
+//!   reads no frame of more than 404 octets with its check and writes none of more than 402.
 
 use pelgrant_host::abi::Card;
 use pelgrant_host::document::check_sequence;
@@ -151,6 +152,9 @@ fn heard(line: &[u8], count: usize) -> Heard {
 }
 
 // ---- Tests ----
+
+/// One line of a kind, tried with one stack.
+type Test = fn(&mut Run, &Stack);
 
 struct Run {
     random: Random,
@@ -335,7 +339,7 @@ fn argument(place: usize, default: u64) -> u64 {
 fn main() -> ExitCode {
     let (lines, seed) = (argument(1, LINES), argument(2, SEED));
     let mut run = Run { random: Random::from_seed(seed), compared: 0, different: 0 };
-    let tests: [(&str, fn(&mut Run, &Stack)); 6] = [
+    let tests: [(&str, Test); 6] = [
         ("reads what we write", Run::we_write),
         ("writes what we read", Run::they_write),
         ("and we read flags between, shared or with shared zeros", Run::flags_between),
