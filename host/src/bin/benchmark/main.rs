@@ -338,8 +338,8 @@ fn check_table(yardstick: Yardstick) {
 }
 
 /// A line of signalling frames of so many octets, with any octets or ones behind their head and the check over
-/// all of them, which link and the foreign stacks alike work out. They are too many to be known by heart: a
-/// processor soon foresees the branches of a few short ones.
+/// all of them, which link and the foreign stacks alike work out. They are many, for a processor soon foresees
+/// the branches that a few take.
 fn line_of(octets: usize, all_ones: bool) -> Line {
     let count = (16_000 / octets).clamp(32, 200);
     let mut random = Random::from_seed(octets as u64);
