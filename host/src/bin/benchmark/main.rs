@@ -383,7 +383,8 @@ impl Lines {
         );
         let quickest = theirs.iter().copied().fold(f64::INFINITY, f64::min);
         if ratio(card, rust) > DONE_MARK || card > quickest {
-            self.above.push(above(&format!("{call}, {what}"), card, rust));
+            let stack = if theirs.is_empty() { String::new() } else { format!("; quickest stack {quickest:.1} ns") };
+            self.above.push(above(&format!("{call}, {what}"), card, rust) + &stack);
         }
     }
 

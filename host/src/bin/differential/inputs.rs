@@ -1,8 +1,8 @@
 //! What the calls are tried with: right in all, wrong in one thing, or wrong in several, with the
 //! values at and just past each limit oftener than the rest.
 
-use pelgrant_host::random::Random;
 use pelgrant_host::document::{check_sequence, Coding};
+use pelgrant_host::random::Random;
 
 pub const CLOCK_MAX: u64 = 1 << 62;
 pub const LEGAL_CODINGS: [u8; 17] = [0, 1, 2, 3, 4, 5, 6, 7, 8, 9, 10, 11, 12, 13, 20, 21, 24];

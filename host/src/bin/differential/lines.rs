@@ -2,9 +2,9 @@
 //! And which cases of them were met.
 
 use crate::inputs::{room, Faults};
-use pelgrant_host::random::Random;
 use crate::table::{crossed, Table};
 use pelgrant_host::line::{self, Stretch};
+use pelgrant_host::random::Random;
 use std::cmp::Ordering;
 
 pub type Bits = Vec<bool>;
