@@ -3,7 +3,7 @@ use Prim.Native.Nat.{ℕ, zero, suc, _+_, _-_, _*_, _/_, _%_, _^_, _≤_, _<_, m
 use mathlib.Core.Path.{_≡_, refl, sym, ap, ap₂, _∙_}
 use mathlib.Core.Bool.{Bool, true, false, cond}
 use mathlib.Core.List.{List, [], _∷_, _++_, append-assoc}
-use native.Mathlib.Nat.{mod-one, zero-mod, zero-div, div-one, mod-eq-of-lt, pow-suc, mul-comm, mul-assoc, one-mul, div-div-eq-div-mul, div-eq-of-lt, add-zero, zero-add, suc-add, not-suc-le-zero, le-of-suc-le-suc, le-of-eq, lt-of-lt-of-le, zero-min, min-zero, suc-min-suc, sub-zero, zero-sub, suc-sub-suc}
+use native.Mathlib.Nat.{mod-one, zero-mod, zero-div, div-one, mod-lt, mod-eq-of-lt, pow-suc, mul-comm, mul-assoc, one-mul, div-div-eq-div-mul, div-eq-of-lt, add-zero, zero-add, suc-add, not-suc-le-zero, le-of-suc-le-suc, le-of-eq, lt-of-lt-of-le, zero-min, min-zero, suc-min-suc, sub-zero, zero-sub, suc-sub-suc}
 use native.Mathlib.Numerals.{add-one}
 use native.Mathlib.Omega.{arith}
 use lib.Dec.{eqb, lit<}
@@ -132,6 +132,13 @@ unfolding value lowest
 lowest-value [] = refl
 lowest-value (b ∷ bs) = lowest-cons (length bs) b (value bs) ∙ ap (λ (l : List Bool). b ∷ l) (lowest-value bs)
 
+-- the first n bits, as a number
+pub front-lt : (n : ℕ) (bs : List Bool) → value (take n bs) < 2 ^ n
+front-lt n bs = rw (value-take n bs) (mod-lt (value bs) (pow-pos n))
+
+pub front-is : (n : ℕ) (bs : List Bool) → n ≤ length bs → lowest n (value (take n bs)) ≡ take n bs
+front-is n bs h = ap (λ (k : ℕ). lowest k (value (take n bs))) (sym (length-take-le n bs h)) ∙ lowest-value (take n bs)
+
 -- bits are known by their value and how many there are
 pub same-bits : (us vs : List Bool) → length us ≡ length vs → value us ≡ value vs → us ≡ vs
 same-bits us vs n e = sym (lowest-value us) ∙ ap₂ lowest n e ∙ lowest-value vs
@@ -184,8 +191,7 @@ pub bits-of-octets : (n : ℕ) (bs : List Bool) → 8 * n ≤ length bs → bits
 unfolding octetsOf bits
 bits-of-octets zero bs h = refl
 bits-of-octets (suc n) bs h =
-    let front : lowest 8 (value (take 8 bs)) ≡ take 8 bs = rw (length-take-le 8 bs (omega arith)) at (lowest-value (take 8 bs)) in
-    rw (eight-more n, take-add 8 (8 * n) bs) (ap₂ _++_ front (bits-of-octets n (drop 8 bs) (omega (arith, length-drop 8 bs))))
+    rw (eight-more n, take-add 8 (8 * n) bs) (ap₂ _++_ (front-is 8 bs (omega arith)) (bits-of-octets n (drop 8 bs) (omega (arith, length-drop 8 bs))))
 
 pub octets-by-value : (n : ℕ) (us vs : List Bool) → value us ≡ value vs → octetsOf n us ≡ octetsOf n vs
 unfolding octetsOf

@@ -1,16 +1,16 @@
 -- The writer: what is put, whether there is room for it, and the answer of each way out.
-use Prim.Native.Nat.{ℕ, zero, suc, _+_, _*_, _/_, _≤_, _<_}
+use Prim.Native.Nat.{ℕ, _+_, _*_, _/_, _≤_, _<_}
 use mathlib.Core.Path.{_≡_, refl, sym, ap, ap₂, _∙_}
 use mathlib.Core.Bool.{Bool, true, false, _||_, cond}
 use mathlib.Core.List.{List, [], _∷_, _++_, append-assoc}
-use native.Mathlib.Nat.{le-refl, add-assoc}
+use native.Mathlib.Nat.{le-refl}
 use native.Mathlib.Omega.{arith}
 use lib.Dec.{ltb, eqb, eqb·suc-zero}
 use borrow.Author.Tests.{ltb-false}
 use lib.ListN.{length, getD, take, drop, length-append}
 use lib.Seq.{slice, take-all}
 use Rattle.octets.proofs.BoolLaws.{or-false}
-use Rattle.refusals.specs.Refusals.{ifTaken, refuse, _orElse_, refusal1}
+use Rattle.refusals.specs.Refusals.{refuse, _orElse_, refusal1}
 use Rattle.refusals.proofs.RefusalLaws.{if-taken, refused-is, done-is, orElse-take, orElse-pass, orElse-zero, refuse-zero}
 use Rattle.bits.specs.Bits.{bits, lowest, octetsOf}
 use Rattle.bits.proofs.BitLaws.{length-bits, octets-of-bits}

@@ -1,7 +1,7 @@
 -- Bits put behind one another into octets: one step after another, and what stands there at the end.
 use Prim.Native.Nat.{ℕ, zero, suc, _+_, _-_, _*_, _/_, _%_, _^_, _≤_, _<_}
 use mathlib.Core.Path.{_≡_, refl, sym, ap, ap₂, _∙_}
-use mathlib.Core.Bool.{Bool, true, false}
+use mathlib.Core.Bool.{Bool}
 use mathlib.Core.List.{List, [], _∷_, _++_, append-assoc, append-nil}
 use native.Mathlib.Nat.{not-suc-le-zero, mod-eq-of-lt}
 use native.Mathlib.Omega.{arith}
@@ -10,7 +10,7 @@ use lib.Dec.{lit<, lit≤}
 use lib.Pow.{shr-lt, pow-mono}
 use lib.Seq.{drop-drop, drop-cons, drop-at, take-at, set-split, take-add, length-take-le}
 use Rattle.bits.specs.Bits.{bits, lowest, value, octetsOf}
-use Rattle.bits.proofs.BitLaws.{length-bits, length-lowest, length-octets, bits-append, bits-drop, bits-take, value-append, value-lt, value-lowest, lowest-append, lowest-split, lowest-value, joined-lt, octets-of-bits, poured}
+use Rattle.bits.proofs.BitLaws.{length-bits, length-lowest, length-octets, bits-append, bits-drop, bits-take, value-lt, lowest-append, lowest-split, lowest-value, joined-lt, octets-of-bits, poured}
 use Rattle.zeros.specs.Parts.{More}
 use Rattle.line.specs.Line.{flag}
 use Rattle.line.specs.Parts.{opened}

@@ -1,17 +1,16 @@
 -- Laws of the reader's answer and of its output, one for each way out.
-use Prim.Native.Nat.{ℕ, zero, suc, _+_, _*_, _/_, _%_, _≤_, _<_}
+use Prim.Native.Nat.{ℕ, _+_, _*_, _/_, _%_, _≤_, _<_}
 use mathlib.Core.Path.{_≡_, refl, sym, ap, ap₂, _∙_}
-use mathlib.Core.Bool.{Bool, true, false, _||_, not, cond}
-use mathlib.Core.List.{List, [], _∷_, _++_}
+use mathlib.Core.Bool.{Bool, true, false, _||_, not}
+use mathlib.Core.List.{List, _++_}
 use mathlib.Core.Option.{Option, none, some}
-use native.Mathlib.Nat.{le-refl}
 use native.Mathlib.Omega.{arith}
 use lib.Dec.{ltb, eqb}
 use borrow.Author.Tests.{lt-ltb, le-ltb, ltb-false, eqb-true, not-false}
 use lib.ListN.{length, getD, take, drop, length-drop}
 use lib.Seq.{slice, take-take}
 use Rattle.octets.proofs.BoolLaws.{or-false}
-use Rattle.refusals.specs.Refusals.{ifTaken, refuse, _orElse_, refusal16}
+use Rattle.refusals.specs.Refusals.{_orElse_, refusal16}
 use Rattle.refusals.proofs.RefusalLaws.{if-taken, if-refused, refused-is, orElse-take, orElse-zero, refuse-zero}
 use Rattle.bits.specs.Bits.{bits, value, octetsOf}
 use Rattle.bits.proofs.BitLaws.{length-octets}
@@ -20,7 +19,7 @@ use Rattle.zeros.specs.Parts.{More}
 use Rattle.zeros.proofs.CarryLaws.{unstuff-short}
 use Rattle.line.specs.Line.{sevenOnes, next, closed, betweenRefusal, Reading}
 use Rattle.line.specs.Parts.{Lies}
-use Rattle.line.specs.Calls.{past, told, heardOut, nextRefusal14, nextAnswer, nextOut}
+use Rattle.line.specs.Calls.{past, told, heardOut, nextAnswer, nextOut}
 use Rattle.line.specs.declared.TakenOff.{TakenOff}
 use Rattle.line.proofs.FindLaws.{length-line, aborted-is}
 use Rattle.line.proofs.MoreLaws.{all-out}

@@ -1,6 +1,6 @@
 -- Where what is sought first stands, looked for in many bits at once.
 use Prim.Native.Nat.{ℕ, _+_, _-_, _*_, _^_, _≤_, _<_, min}
-use mathlib.Core.Path.{_≡_, sym, ap, ap₂, _∙_}
+use mathlib.Core.Path.{_≡_, sym, ap, _∙_}
 use mathlib.Core.Bool.{Bool, true, false, cond}
 use mathlib.Core.List.{List}
 use native.Mathlib.Nat.{add-assoc}
@@ -12,7 +12,7 @@ use lib.ListN.{length, take, drop, length-take, length-drop}
 use lib.Seq.{drop-drop}
 use Rattle.bits.specs.Bits.{bits, lowest, value}
 use Rattle.bits.specs.Places.{until, marks}
-use Rattle.bits.proofs.BitLaws.{length-bits, value-lt, lowest-value, drop-take, take-take-min}
+use Rattle.bits.proofs.BitLaws.{length-bits, front-lt, front-is, drop-take, take-take-min}
 use Rattle.bits.proofs.MarkLaws.{ones}
 use Rattle.bits.proofs.UntilLaws.{until-le, until-window, begins-take}
 use Rattle.line.specs.Line.{flag, flagHere}
@@ -42,14 +42,11 @@ module _ (s : List ℕ) (count : ℕ) (within : count ≤ 8 * length s) where
     window-is : take n (drop i (bits s)) ≡ take 56 (rest s count i)
     window-is = rw (en, drop-take i count (bits s), take-take-min 56 (count - i) (drop i (bits s)))
 
-    window-length : length (take n (drop i (bits s))) ≡ n
-    window-length = ap length window-is ∙ length-take 56 (rest s count i) ∙ ap (min 56) (length-rest i) ∙ sym en
-
     pub window-fits : w < 2 ^ n
-    window-fits = rw ew (rw window-length at (value-lt (take n (drop i (bits s)))))
+    window-fits = rw ew (front-lt n (drop i (bits s)))
 
     seen : lowest n w ≡ take 56 (rest s count i)
-    seen = ap₂ lowest (sym window-length) ew ∙ lowest-value (take n (drop i (bits s))) ∙ window-is
+    seen = ap (lowest n) ew ∙ front-is n (drop i (bits s)) (omega (arith, length-drop i (bits s), length-bits s)) ∙ window-is
 
     module _ (o : Bool) (m : ℕ) (em : m ≡ value (marks (sought o) (lowest n w))) where
       told : until (sought o) (rest s count i)

@@ -8,10 +8,10 @@ use native.Mathlib.Omega.{arith}
 use lib.ListN.{length, take, drop, length-drop}
 use lib.Dec.{lit<, lit≤}
 use lib.Pow.{pow-mono}
-use lib.Seq.{take-add, drop-drop, length-take-le}
+use lib.Seq.{take-add, drop-drop}
 use Rattle.bits.specs.Bits.{lowest, value}
 use Rattle.bits.specs.Places.{begins, until}
-use Rattle.bits.proofs.BitLaws.{value-lt, lowest-value, lowest-append, joined-lt}
+use Rattle.bits.proofs.BitLaws.{front-lt, front-is, lowest-append, joined-lt}
 use Rattle.bits.proofs.MarkLaws.{ones}
 use Rattle.bits.proofs.UntilLaws.{begins-long, until-holds}
 use Rattle.zeros.specs.Zeros.{stuff, unstuff}
@@ -138,17 +138,11 @@ made-more w bs x n t y m g a b =
           ∙ rw (lowest-append n m x y (a .fits), append-assoc (lowest n x) (lowest m y) (carried w (drop (t + g) bs)), drop-drop g t bs);
     }
 
-lowest-take : (m : ℕ) (bs : List Bool) → m ≤ length bs → (value (take m bs) < 2 ^ m) × (lowest m (value (take m bs)) ≡ take m bs)
-lowest-take m bs h =
-    let e : length (take m bs) ≡ m = length-take-le m bs h in
-    (rw e at (value-lt (take m bs)), rw e at (lowest-value (take m bs)))
-
 module _ (w : Bool) (bs : List Bool) where
   -- bits before the first five ones
   pub made-plain : (m : ℕ) → m ≤ until fiveOnes bs → m ≤ length bs → Made w bs (value (take m bs)) m m
   made-plain m h l =
-      let v = lowest-take m bs l in
-      record { fits = v .0; is = rw (v .1, carried-at w bs, carried-at w (drop m bs)) (plain w m bs h) }
+      record { fits = front-lt m bs; is = rw (front-is m bs l, carried-at w bs, carried-at w (drop m bs)) (plain w m bs h) }
 
   module _ (h : until fiveOnes bs < length bs) where
     pub five-room : until fiveOnes bs + 5 ≤ length bs
@@ -163,7 +157,6 @@ module _ (w : Bool) (bs : List Bool) where
         let put : ℕ = cond w 1 0 in
         let d : List Bool = drop j bs in
         let x : ℕ = value (take (j + 5) bs) in
-        let v = lowest-take (j + 5) bs five-room in
         let y : x ≡ x + 0 * 2 ^ (j + 5) = omega arith in
         let gone : ℕ = j + 5 + (1 - put) in
         let g : j + (5 + (1 - put)) ≡ gone = omega arith in
@@ -172,8 +165,8 @@ module _ (w : Bool) (bs : List Bool) where
         let b : behind w (drop 5 d) ≡ lowest put 0 ++ carried w (drop gone bs) =
         behind-is w (drop 5 d) ∙ rw (drop-drop (1 - put) 5 d, drop-drop (5 + (1 - put)) j bs, g) in
         let n : lowest (j + 5 + put) x ≡ take (j + 5) bs ++ lowest put 0 =
-        ap (lowest (j + 5 + put)) y ∙ lowest-append (j + 5) put x 0 (v .0) ∙ rw (v .1) in
+        ap (lowest (j + 5 + put)) y ∙ lowest-append (j + 5) put x 0 (front-lt (j + 5) bs) ∙ rw (front-is (j + 5) bs five-room) in
         record {
-          fits = lt-of-lt-of-le (v .0) (pow-mono {i = j + 5} {j = j + 5 + put} (omega arith));
+          fits = lt-of-lt-of-le (front-lt (j + 5) bs) (pow-mono {i = j + 5} {j = j + 5 + put} (omega arith));
           is = a ∙ rw (b, n, take-add j 5 bs) (simp append-assoc);
         }

@@ -1,8 +1,8 @@
 -- Laws of carrying bits from octets to octets: a look at some of them, and what they become put behind what is there.
 use Prim.Native.Nat.{ℕ, _+_, _-_, _*_, _/_, _%_, _^_, _≤_, _<_, min}
 use mathlib.Core.Path.{_≡_, refl, sym, ap, _∙_}
-use mathlib.Core.Bool.{Bool, true, false}
-use mathlib.Core.List.{List, [], _∷_, _++_, append-assoc, append-nil}
+use mathlib.Core.Bool.{Bool}
+use mathlib.Core.List.{List, [], _++_, append-assoc, append-nil}
 use native.Mathlib.Nat.{add-zero, add-comm, lt-of-lt-of-le, mod-lt}
 use native.Mathlib.Omega.{arith}
 use lib.Dec.{lit<}
@@ -10,7 +10,7 @@ use lib.Pow.{pow-mono, shl-exact, shr-lt}
 use lib.ListN.{length, take, drop, length-append, length-drop, length-take, drop-of-length-le}
 use lib.Seq.{slice, length-slice, take-at, drop-at, drop-drop, length-take-le}
 use Rattle.bits.specs.Bits.{bits, lowest, value, octetsOf}
-use Rattle.bits.proofs.BitLaws.{value-lt, length-bits, length-lowest, length-octets, bits-append, lowest-append, joined-lt, power-octets, poured, drop-take, take-take-min}
+use Rattle.bits.proofs.BitLaws.{front-lt, length-bits, length-lowest, length-octets, bits-append, lowest-append, joined-lt, power-octets, poured, drop-take, take-take-min}
 use Rattle.zeros.specs.Parts.{carried, Some, More}
 use Rattle.zeros.proofs.CarryLaws.{carried-empty}
 
@@ -22,8 +22,7 @@ module _ (bs : List Bool) (i end n w : ℕ) (en : n ≡ min 48 (end - i)) (ew : 
   look-is = rw (ew, en, drop-take i end bs, take-take-min 48 (end - i) (drop i bs))
 
   pub look-fits : w < 2 ^ 48
-  look-fits =
-      rw ew (lt-of-lt-of-le (value-lt (take n (drop i bs))) (pow-mono {i = length (take n (drop i bs))} {j = 48} (omega (arith, length-take n (drop i bs)))))
+  look-fits = rw ew (lt-of-lt-of-le (front-lt n (drop i bs)) (pow-mono {i = n} {j = 48} (omega arith)))
 
 -- what the bits from i to the end become
 abbrev pub become : Bool → List ℕ → ℕ → ℕ → List Bool

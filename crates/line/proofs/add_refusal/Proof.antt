@@ -1,4 +1,4 @@
-use mathlib.Core.Path.{_≡_, sym, ap, _∙_}
+use mathlib.Core.Path.{sym, _∙_}
 use Rattle.line.proofs.AddLaws.{count-past, bad-size, by-room, small}
 use Rattle.line.proofs.add_refusal.Statement.{statement}
 use Rattle.line.proofs.add_refusal.Tie as tie

@@ -1,10 +1,9 @@
-use Prim.Native.Nat.{ℕ, suc, _+_, _*_, _≤_}
+use Prim.Native.Nat.{ℕ, _+_}
 use mathlib.Core.Path.{_≡_, sym, ap, _∙_}
 use native.Mathlib.Omega.{arith}
 use borrow.Author.Needs.{needs}
 use borrow.Author.Tests.{not-true}
 use lib.ListN.{length}
-use Rattle.bits.specs.Bits.{bits}
 use Rattle.zeros.specs.Zeros.{stuff}
 use Rattle.line.specs.Parts.{sentAs}
 use Rattle.line.specs.Calls.{over}

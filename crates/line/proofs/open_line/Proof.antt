@@ -1,5 +1,3 @@
-use Prim.Native.Nat.{_%_, _^_, _<_}
-use mathlib.Core.Path.{_∙_}
 use native.Mathlib.Omega.{arith}
 use borrow.Author.Needs.{needs}
 use Rattle.line.proofs.MoreLaws.{open-empty, open-more}

@@ -1,6 +1,6 @@
-use Prim.Native.Nat.{ℕ, _+_, _*_, _≤_, _<_}
+use Prim.Native.Nat.{_+_, _*_, _≤_}
 use mathlib.Core.Bool.{cond}
-use mathlib.Core.Path.{_≡_, sym, ap, _∙_}
+use mathlib.Core.Path.{_≡_, ap}
 use native.Mathlib.Omega.{arith}
 use borrow.Author.Needs.{needs}
 use lib.Dec.{eqb}
@@ -9,7 +9,7 @@ use lib.Seq.{slice}
 use Rattle.bits.specs.Bits.{bits}
 use Rattle.zeros.specs.Zeros.{stuff}
 use Rattle.line.specs.Parts.{sentAs}
-use Rattle.line.proofs.AddLaws.{Taken, taken, whole-frame, all-bits, begins-at, closes-at, written}
+use Rattle.line.proofs.AddLaws.{taken, whole-frame, all-bits, begins-at, closes-at, written}
 use Rattle.line.proofs.write.Statement.{statement}
 use Rattle.line.proofs.write.Tie as tie
 

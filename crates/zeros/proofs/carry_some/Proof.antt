@@ -1,7 +1,5 @@
 -- `zeros::carry_some` meets its contract.
-use Prim.Native.Nat.{_≤_}
 use native.Mathlib.Omega.{arith}
-use lib.ListN.{length}
 use lib.Seq.{slice, length-slice}
 use Rattle.bits.specs.Bits.{bits}
 use Rattle.bits.proofs.BitLaws.{length-bits}

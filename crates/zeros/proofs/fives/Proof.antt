@@ -4,7 +4,7 @@ use mathlib.Core.Bool.{true}
 use native.Mathlib.Omega.{arith}
 use lib.Bits.{bitAnd}
 use lib.Count.{trailing-le}
-use Rattle.bits.proofs.MarkLaws.{Marked, ones, join, one-marked, four, four-marked, first-marked}
+use Rattle.bits.proofs.MarkLaws.{ones, join, one-marked, four, four-marked, first-marked}
 use Rattle.zeros.specs.Parts.{fiveOnes}
 use Rattle.zeros.proofs.fives.Statement.{statement}
 use Rattle.zeros.proofs.fives.Tie as tie
