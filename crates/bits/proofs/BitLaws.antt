@@ -176,6 +176,13 @@ module _ (n m x : ℕ) (within : n ≤ m) where
 
 -- ---- octets of bits
 
+-- some of a list's octets are octets
+pub octet-take : (n : ℕ) (f : List ℕ) → ((i : ℕ) → getD f i 0 < 256) → (i : ℕ) → getD (take n f) i 0 < 256
+octet-take zero f o i = omega arith
+octet-take (suc n) [] o i = omega arith
+octet-take (suc n) (x ∷ f) o zero = o 0
+octet-take (suc n) (x ∷ f) o (suc i) = octet-take n f (λ j. o (suc j)) i
+
 pub value-octet : (x : ℕ) (f : List ℕ) → x < 256 → value (bits (x ∷ f)) ≡ x + value (bits f) * 256
 unfolding bits
 value-octet x f h = rw (value-append (lowest 8 x) (bits f), length-lowest 8 x, value-lowest 8 x h)

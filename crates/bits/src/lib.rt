@@ -19,7 +19,7 @@ fn four(s: &[u8], j: usize) -> u64
     wide(s[j]) + wide(s[j + 1]) * 256 + wide(s[j + 2]) * 65536 + wide(s[j + 3]) * 16777216
 }
 
-fn eight(s: &[u8], j: usize) -> u64
+pub fn eight(s: &[u8], j: usize) -> u64
     requires { ⌜ j + 8 ≤ length (now s) ⌝ }
     ensures { λ r. ⌜ r ≡ value (bits (take 8 (drop j (now (s .entry))))) ⌝ }
 {

@@ -7,11 +7,13 @@ use native.Mathlib.Numerals.{one-add}
 use native.Mathlib.Omega.{arith}
 use lib.Bits.{bitXor, xor-shifted, xor-shr, xor-mod, xor-block, xor-comm}
 use lib.Pow.{split, pow-pos, shr-lt}
-use lib.ListN.{length, getD, take, drop, take-append-drop}
-use lib.Seq.{drop-cons, drop-drop, take-add}
+use lib.ListN.{length, getD, take, drop, length-drop, take-append-drop}
+use lib.Seq.{drop-drop, getD-drop, length-take-le}
 use Rattle.octets.specs.Octets.{tab}
 use Rattle.octets.proofs.TabLaws.{agree}
 use Rattle.octets.proofs.XorLaws.{xor-odd, xor-assoc}
+use Rattle.bits.specs.Bits.{bits, value}
+use Rattle.bits.proofs.BitLaws.{value-octet, octet-take}
 use Rattle.fcs.specs.Fcs.{generator, fcsStep, fcsBits, fcsRun}
 use Rattle.fcs.proofs.ShiftLaws.{added, moved, entryOf, by-table}
 use Rattle.fcs.proofs.RunLaws.{run-append}
@@ -197,46 +199,27 @@ twice n x f {r} p q =
     (sym (moved n high low) ∙ ap (λ (z : ℕ). fcsBits n z 0) (xor-shifted high n low (mod-lt x (pow-pos n)) ∙ split x n))
     ∙ sym (joined n n x 0 0 (pow-pos n)) ∙ ap (fcsBits (n + n) x) none
 
--- ---- four octets as one number, and eight
+-- ---- octets as one number
 
-four : (reg a b c d : ℕ) → a < 256 → b < 256 → c < 256 → d < 256
-    → fcsBits 32 reg (a + b * 256 + c * 65536 + d * 16777216) ≡ fcsRun reg (a ∷ b ∷ c ∷ d ∷ [])
-unfolding fcsRun
-four reg a b c d ha hb hc hd =
-    let e : a + b * 256 + c * 65536 + d * 16777216 ≡ (b + c * 256 + d * 65536) * 256 + a = omega arith in
-    let f : b + c * 256 + d * 65536 ≡ (c + d * 256) * 256 + b = omega arith in
-    let g : c + d * 256 ≡ d * 256 + c = omega arith in
-    ap (fcsBits 32 reg) e ∙ joined 8 24 reg a (b + c * 256 + d * 65536) ha
-    ∙ ap (fcsBits 24 (fcsBits 8 reg a)) f ∙ joined 8 16 (fcsBits 8 reg a) b (c + d * 256) hb
-    ∙ ap (fcsBits 16 (fcsBits 8 (fcsBits 8 reg a) b)) g ∙ joined 8 8 (fcsBits 8 (fcsBits 8 reg a) b) c d hc
-
-four-taken : (s : List ℕ) (i : ℕ) → i + 4 ≤ length s → take 4 (drop i s) ≡ getD s i 0 ∷ getD s (i + 1) 0 ∷ getD s (i + 2) 0 ∷ getD s (i + 3) 0 ∷ []
-four-taken s i h =
-    let p : i + 1 ≡ suc i = omega arith in
-    let q : i + 2 ≡ suc (suc i) = omega arith in
-    let r : i + 3 ≡ suc (suc (suc i)) = omega arith in
-    rw (p, q, r, drop-cons s i 0 (omega arith), drop-cons s (suc i) 0 (omega arith), drop-cons s (suc (suc i)) 0 (omega arith), drop-cons s (suc (suc (suc i))) 0 (omega arith))
+-- fed at once and one by one
+fed : (f : List ℕ) → ((i : ℕ) → getD f i 0 < 256) → (reg : ℕ) → fcsBits (8 * length f) reg (value (bits f)) ≡ fcsRun reg f
+unfolding fcsBits fcsRun
+fed [] o reg = refl
+fed (x ∷ f) o reg =
+    let e : 8 * suc (length f) ≡ 8 + 8 * length f = omega arith in
+    let v : value (bits (x ∷ f)) ≡ value (bits f) * 2 ^ 8 + x = value-octet x f (o 0) ∙ omega arith in
+    ap₂ (λ (n w : ℕ). fcsBits n reg w) e v ∙ joined 8 (8 * length f) reg x (value (bits f)) (o 0) ∙ fed f (λ i. o (suc i)) (fcsBits 8 reg x)
 
 -- what k octets from i on make of any register, as a number whose n bits are fed to it
 abbrev pub Fed : ℕ → ℕ → List ℕ → ℕ → ℕ → Type 0
 Fed n k s i w = (reg : ℕ) → fcsBits n reg w ≡ fcsRun reg (take k (drop i s))
 
-pub fed : (s : List ℕ) (i : ℕ) {a b c d : ℕ} → i + 4 ≤ length s → (a ≡ getD s i 0) × (a < 256) → (b ≡ getD s (i + 1) 0) × (b < 256)
-    → (c ≡ getD s (i + 2) 0) × (c < 256) → (d ≡ getD s (i + 3) 0) × (d < 256)
-    → (a + b * 256 + c * 65536 + d * 16777216 < 4294967296) × Fed 32 4 s i (a + b * 256 + c * 65536 + d * 16777216)
-fed s i {a} {b} {c} {d} h p q r t = (
-  omega arith,
-  λ reg. four reg a b c d (p .1) (q .1) (r .1) (t .1) ∙ ap (fcsRun reg) (rw (p .0, q .0, r .0, t .0) (sym (four-taken s i h))),
-)
-
-pub fed-both : (s : List ℕ) (i low high : ℕ) → (low < 4294967296) × Fed 32 4 s i low → (high < 4294967296) × Fed 32 4 s (i + 4) high
-    → Fed 64 8 s i (low + high * 4294967296)
-fed-both s i low high p q reg =
-    let e : low + high * 4294967296 ≡ high * 4294967296 + low = omega arith in
-    ap (fcsBits 64 reg) e ∙ joined 32 32 reg low high (p .0) ∙ q .1 (fcsBits 32 reg low)
-    ∙ ap (λ (z : ℕ). fcsRun z (take 4 (drop (i + 4) s))) (p .1 reg)
-    ∙ ap (λ (l : List ℕ). fcsRun (fcsRun reg (take 4 (drop i s))) (take 4 l)) (sym (drop-drop 4 i s))
-    ∙ sym (run-append reg (take 4 (drop i s)) (take 4 (drop 4 (drop i s)))) ∙ ap (fcsRun reg) (sym (take-add 4 4 (drop i s)))
+pub fed-eight : (s : List ℕ) (i w : ℕ) → i + 8 ≤ length s → ((k : ℕ) → getD s k 0 < 256) → w ≡ value (bits (take 8 (drop i s))) → Fed 64 8 s i w
+fed-eight s i w h o e reg =
+    let f : List ℕ = take 8 (drop i s) in
+    let n : length f ≡ 8 = length-take-le 8 (drop i s) (omega (arith, length-drop i s)) in
+    let octet : (k : ℕ) → getD f k 0 < 256 = octet-take 8 (drop i s) (λ k. rw (getD-drop i s k 0) (o (i + k))) in
+    ap (fcsBits 64 reg) e ∙ ap (λ (m : ℕ). fcsBits (8 * m) reg (value (bits f))) (sym n) ∙ fed f octet reg
 
 -- the first eight: added to the preset
 pub first-eight : (s : List ℕ) (w : ℕ) → w < 18446744073709551616 → Fed 64 8 s 0 w → fcsBits 64 (bitXor w 65535) 0 ≡ fcsRun 65535 (take 8 s)

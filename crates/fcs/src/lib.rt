@@ -57,25 +57,12 @@ fn ended_64(a: u64) -> u16
     ended_32(((a / 4294967296) as u32) ^ low)
 }
 
-fn wide(x: u8) -> u64
-    ensures { λ r. ⌜ (r ≡ x) × (r < 256) ⌝ }
-{
-    x as u64
-}
-
-// Four octets from i on, and eight, as one number, the first the lowest. Here and below the callers keep within the slice.
-fn four(s: &[u8], i: usize) -> u64
-    requires { ⌜ i + 4 ≤ length (now s) ⌝ }
-    ensures { λ r. ⌜ (r < 4294967296) × ((reg : ℕ) → fcsBits 32 reg r ≡ fcsRun reg (take 4 (drop i (now (s .entry))))) ⌝ }
-{
-    wide(s[i]) + wide(s[i + 1]) * 256 + wide(s[i + 2]) * 65536 + wide(s[i + 3]) * 16777216
-}
-
+// Eight octets from i on as one number, fed at once. Here and below the callers keep within the slice.
 fn eight(s: &[u8], i: usize) -> u64
     requires { ⌜ i + 8 ≤ length (now s) ⌝ }
     ensures { λ r. ⌜ ((reg : ℕ) → fcsBits 64 reg r ≡ fcsRun reg (take 8 (drop i (now (s .entry))))) ⌝ }
 {
-    four(s, i) + four(s, i + 4) * 4294967296
+    bits::eight(s, i)
 }
 
 // The octets from `from` on, one by one.

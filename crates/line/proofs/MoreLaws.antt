@@ -10,7 +10,7 @@ use lib.Dec.{lit<, lit≤}
 use lib.Pow.{shr-lt, pow-mono}
 use lib.Seq.{drop-drop, drop-cons, drop-at, take-at, set-split, take-add, length-take-le}
 use Rattle.bits.specs.Bits.{bits, lowest, value, octetsOf}
-use Rattle.bits.proofs.BitLaws.{length-bits, length-lowest, length-octets, bits-append, bits-drop, bits-take, value-lt, lowest-append, lowest-split, lowest-value, joined-lt, octets-of-bits, poured}
+use Rattle.bits.proofs.BitLaws.{length-bits, length-lowest, length-octets, bits-append, bits-drop, bits-take, value-lt, lowest-append, lowest-split, lowest-value, joined-lt, octets-of-bits, octet-take, poured}
 use Rattle.zeros.specs.Parts.{More}
 use Rattle.line.specs.Line.{flag}
 use Rattle.line.specs.Parts.{opened}
@@ -35,12 +35,6 @@ more-more f g h at held n at₂ held₂ n₂ at₃ held₃ n₃ u v p q =
     }
 
 -- ---- whole octets and nothing held
-
-octet-take : (n : ℕ) (f : List ℕ) → ((i : ℕ) → getD f i 0 < 256) → (i : ℕ) → getD (take n f) i 0 < 256
-octet-take zero f o i = omega arith
-octet-take (suc n) [] o i = omega arith
-octet-take (suc n) (x ∷ f) o zero = o 0
-octet-take (suc n) (x ∷ f) o (suc i) = octet-take n f (λ j. o (suc j)) i
 
 pub all-out : (out after : List ℕ) (at held n : ℕ) (u : List Bool) → ((i : ℕ) → getD after i 0 < 256) → More out after 0 0 0 u at held n → length u % 8 ≡ 0
     → after ≡ octetsOf (length u / 8) u ++ drop (length u / 8) out

@@ -1,30 +1,16 @@
--- `fcs::eight` meets its contract: four octets twice.
+-- `fcs::eight` meets its contract.
 use native.Mathlib.Omega.{arith}
-use Rattle.fcs.proofs.FoldLaws.{fed-both}
+use Rattle.fcs.proofs.FoldLaws.{fed-eight}
 use Rattle.fcs.proofs.eight.Statement.{statement}
 use Rattle.fcs.proofs.eight.Tie as tie
 
-four-requires : tie.Need-four-requires
-four-requires c κs = omega arith
-
-add-four : tie.Need-add-four
-add-four c = omega arith
-
-four-requires-2 : tie.Need-four-requires-2
-four-requires-2 c κs = omega arith
-
-mul-result : tie.Need-mul-result
-mul-result c = omega arith
-
-add-result : tie.Need-add-result
-add-result c = omega arith
+eight-requires : tie.Need-eight-requires
+eight-requires c κs = omega arith
 
 returns : tie.Need-returns
 returns c =
-    let low = c .before in
-    let a = low .before .before .args in
-    fed-both (a .s .now) (a .i) (low .four .result) (c .four2 .result) (low .four .ensures) (c .four2 .ensures)
+    let b = c .before .before in
+    fed-eight (b .args .s .now) (b .args .i) (c .eight .result) (b .pre) (λ k. omega (arith, c .before .shared-slice-known .given k)) (c .eight .ensures)
 
 pub eight-spec : {M : Type 1} → statement M
-eight-spec =
-    tie.close (tie.spec four-requires add-four four-requires-2 mul-result add-result returns)
+eight-spec = tie.close (tie.spec eight-requires returns)
