@@ -1,3 +1,4 @@
 pub mod BitLaws
 pub mod MarkLaws
 pub mod UntilLaws
+pub mod WindowLaws

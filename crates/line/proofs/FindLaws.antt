@@ -1,22 +1,24 @@
 -- Where a reading lies, and what `next` answers there.
-use Prim.Native.Nat.{ℕ, _+_, _-_, _*_, _≤_, _<_}
+use Prim.Native.Nat.{ℕ, suc, _+_, _-_, _*_, _≤_, _<_}
 use mathlib.Core.Path.{_≡_, refl, sym, ap, _∙_}
-use mathlib.Core.Bool.{Bool, true, false, false≢true}
-use mathlib.Core.List.{List, [], _∷_}
+use mathlib.Core.Bool.{Bool, true, false, Bool·beq, false≢true}
+use mathlib.Core.List.{List, [], _∷_, _++_}
 use native.Mathlib.Nat.{le-refl}
 use native.Mathlib.Omega.{arith}
 use lib.Dec.{ltb, eqb}
-use borrow.Author.Tests.{lt-ltb, le-ltb}
+use borrow.Author.Tests.{lt-ltb, le-ltb, not-true}
 use lib.ListN.{length, take, drop, length-drop, drop-of-length-le}
 use lib.Seq.{drop-drop, slice, length-take-le}
 use Rattle.octets.proofs.BoolLaws.{and-true}
 use Rattle.bits.specs.Bits.{bits, value}
 use Rattle.bits.specs.Places.{begins, until}
 use Rattle.bits.proofs.BitLaws.{length-bits, drop-take, cut}
+use Rattle.bits.proofs.MarkLaws.{ones}
 use Rattle.bits.proofs.UntilLaws.{begins-long, until-le, until-tells}
 use Rattle.line.specs.Line.{flag, flagHere, sevenOnes, opens, ends, next, begin, reading}
 use Rattle.line.specs.Parts.{Lies}
 use Rattle.line.proofs.RoomLaws.{ltb-iff}
+use Rattle.line.proofs.StretchLaws.{stretch-calm}
 
 ends-nil : ends [] ≡ false
 unfolding begins
@@ -25,6 +27,15 @@ ends-nil = refl
 opens-nil : opens [] ≡ false
 unfolding begins
 opens-nil = refl
+
+-- the last bit of what begins with some bits and a zero
+last-zero : (p l : List Bool) → begins (p ++ false ∷ []) l ≡ true → drop (length p) l ≡ false ∷ drop (suc (length p)) l
+unfolding begins
+last-zero [] [] h = absurd (false≢true h)
+last-zero [] (false ∷ l) h = refl
+last-zero [] (true ∷ l) h = absurd (false≢true h)
+last-zero (a ∷ p) [] h = absurd (false≢true h)
+last-zero (a ∷ p) (b ∷ l) h = last-zero p l (and-true (Bool·beq a b) (begins (p ++ false ∷ []) l) h .1)
 
 pub length-line : (f : List ℕ) (count : ℕ) → count ≤ 8 * length f → length (take count (bits f)) ≡ count
 length-line f count h = length-take-le count (bits f) (rw (length-bits f) h)
@@ -39,23 +50,27 @@ pub lies-none : (l : List Bool) (count place o : ℕ) → length l ≡ count →
 unfolding next begin reading until begins
 lies-none l count place o n e h =
     let d : drop (place + until opens (drop place l) + 8) l ≡ [] = drop-of-length-le l {i = place + until opens (drop place l) + 8} (omega arith) in
-    record { ordered = le-refl count; within = le-refl count; reads = rw (d, le-ltb count count (le-refl count)); stands = λ x. absurd (omega arith) }
+    record { ordered = le-refl count; within = le-refl count; reads = rw (d, le-ltb count count (le-refl count)); stands = λ x. absurd (omega arith); calm = λ x. absurd (omega arith) }
 
 module _ (f : List ℕ) (count place o : ℕ) (h : count ≤ 8 * length f) (p : place ≤ count)
     (eo : o ≡ place + until opens (drop place (take count (bits f)))) (some-opens : o ≡ count → ⊥) where
   abbrev l : List Bool
   l = take count (bits f)
 
-  -- a flag that opens has room
-  pub open-room : o + 8 ≤ count
-  open-room =
+  -- a flag stands there, and none on its last zero
+  flag-stands : (flagHere (drop o l) ≡ true) × (flagHere (drop 7 (drop o l)) ≡ false)
+  flag-stands =
       let u : ℕ = until opens (drop place l) in
       let ll : length l ≡ count = length-line f count h in
       let t : opens (drop o l) ≡ true =
       rw (eo, ← drop-drop u place l)
       (until-tells opens (drop place l) opens-nil ∙ lt-ltb u (length (drop place l)) (omega (arith, until-le opens (drop place l), length-drop place l))) in
-      let w : flagHere (drop o l) ≡ true = and-true _ _ (and-true _ _ t .0) .0 in
-      omega (arith, begins-long flag (drop o l) w, length-drop o l)
+      let w = and-true _ _ (and-true _ _ t .0) in
+      (w .0, not-true _ (w .1))
+
+  -- a flag that opens has room
+  pub open-room : o + 8 ≤ count
+  open-room = omega (arith, begins-long flag (drop o l) (flag-stands .0), length-drop o l, length-line f count h)
 
   pub lies-some : (e : ℕ) → e ≡ o + 8 + until ends (drop (o + 8) l) → Lies l count place (o + 8) e
   unfolding next begin reading
@@ -63,6 +78,8 @@ module _ (f : List ℕ) (count place o : ℕ) (h : count ≤ 8 * length f) (p : 
       let q : ℕ = o + 8 in
       let m : ℕ = until ends (drop q l) in
       let ll : length l ≡ count = length-line f count h in
+      let none-on-zero : flagHere (false ∷ drop q l) ≡ false =
+      rw (← drop-drop 8 o l, ← last-zero (false ∷ ones 6) (drop o l) (flag-stands .0)) (flag-stands .1) in
       let t : ends (drop m (drop q l)) ≡ ltb e count =
       until-tells ends (drop q l) ends-nil
       ∙ ltb-iff m (length (drop q l)) e count (λ x. omega (arith, length-drop q l, open-room)) (λ x. omega (arith, length-drop q l, open-room)) in
@@ -71,6 +88,7 @@ module _ (f : List ℕ) (count place o : ℕ) (h : count ≤ 8 * length f) (p : 
         within = omega (arith, until-le ends (drop q l), length-drop q l, open-room);
         reads = rw (← eo, t, slice-is q m l, drop-drop m q l, ← ee);
         stands = λ x. rw ee (sym (ap ends (drop-drop m q l))) ∙ t ∙ lt-ltb e count x;
+        calm = λ x. rw (ee, ← slice-is q m l) (stretch-calm (drop q l) none-on-zero (t ∙ lt-ltb e count x));
       }
 
 -- ---- what stands at its end: seven ones begin with a one, and a flag does not

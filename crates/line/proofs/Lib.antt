@@ -6,3 +6,4 @@ pub mod NextLaws
 pub mod OneOutcome
 pub mod RoomLaws
 pub mod SeekLaws
+pub mod StretchLaws

@@ -7,7 +7,7 @@ use mathlib.Core.Option.{Option, none, some}
 use native.Mathlib.Omega.{arith}
 use lib.Dec.{ltb, eqb}
 use borrow.Author.Tests.{lt-ltb, le-ltb, ltb-false, eqb-true, not-false}
-use lib.ListN.{length, getD, take, drop, length-drop}
+use lib.ListN.{length, getD, take, drop}
 use lib.Seq.{slice, take-take}
 use Rattle.octets.proofs.BoolLaws.{or-false}
 use Rattle.refusals.specs.Refusals.{_orElse_, refusal16}
@@ -16,12 +16,11 @@ use Rattle.bits.specs.Bits.{bits, value, octetsOf}
 use Rattle.bits.proofs.BitLaws.{length-octets}
 use Rattle.zeros.specs.Zeros.{unstuff}
 use Rattle.zeros.specs.Parts.{More}
-use Rattle.zeros.proofs.CarryLaws.{unstuff-short}
 use Rattle.line.specs.Line.{sevenOnes, next, closed, betweenRefusal, Reading}
 use Rattle.line.specs.Parts.{Lies}
 use Rattle.line.specs.Calls.{past, told, heardOut, nextAnswer, nextOut}
 use Rattle.line.specs.declared.TakenOff.{TakenOff}
-use Rattle.line.proofs.FindLaws.{length-line, aborted-is}
+use Rattle.line.proofs.FindLaws.{aborted-is}
 use Rattle.line.proofs.MoreLaws.{all-out}
 
 abbrev silence : TakenOff
@@ -32,13 +31,6 @@ no r p = record { refusal = r; found = false; length = 0; place = p }
 
 abbrev got : ℕ → ℕ → TakenOff
 got n p = record { refusal = 0; found = true; length = n; place = p }
-
--- ---- lengths
-
--- what stands between is no longer than the line
-pub between-short : (f : List ℕ) (count b e : ℕ) → count ≤ 8 * length f → e ≤ count → length (unstuff 5 (slice b e (bits f))) ≤ count
-between-short f count b e h k =
-    omega (arith, unstuff-short 5 (slice b e (bits f)), length-drop b (take e (bits f)), length-line f e (omega arith))
 
 -- what is not refused makes whole octets
 pub whole-octets : (n r : ℕ) (s : Bool) → r ≡ betweenRefusal s n → r ≡ 0 → n % 8 ≡ 0

@@ -12,8 +12,9 @@ use lib.ListN.{length, take, drop, length-take, length-drop}
 use lib.Seq.{drop-drop}
 use Rattle.bits.specs.Bits.{bits, lowest, value}
 use Rattle.bits.specs.Places.{until, marks}
-use Rattle.bits.proofs.BitLaws.{length-bits, front-lt, front-is, drop-take, take-take-min}
+use Rattle.bits.proofs.BitLaws.{drop-take}
 use Rattle.bits.proofs.MarkLaws.{ones}
+use Rattle.bits.proofs.WindowLaws.{rest, length-rest, seen}
 use Rattle.bits.proofs.UntilLaws.{until-le, until-window, begins-take}
 use Rattle.line.specs.Line.{flag, flagHere}
 use Rattle.line.specs.Parts.{sought}
@@ -29,37 +30,19 @@ sees false k l h = rw (flag-take 0 k l (omega arith), begins-take (ones 7) k l (
 
 -- ---- one turn of the loop
 
--- a line's first count bits, from i on
-abbrev pub rest : List ℕ → ℕ → ℕ → List Bool
-rest s count i = drop i (take count (bits s))
+module _ (s : List ℕ) (count : ℕ) (within : count ≤ 8 * length s) (i n w : ℕ) (en : n ≡ min 56 (count - i)) (ew : w ≡ value (take n (drop i (bits s))))
+    (o : Bool) (m : ℕ) (em : m ≡ value (marks (sought o) (lowest n w))) where
+  told : until (sought o) (rest s count i)
+      ≡ cond (ltb (trailingZeros 64 m) 40) (trailingZeros 64 m)
+      (length (take 40 (rest s count i)) + until (sought o) (drop (length (take 40 (rest s count i))) (rest s count i)))
+  told = rw (em, seen s count within 56 i n w en ew) (until-window (sought o) 16 (sees o) 40 56 64 (rest s count i) (omega arith) (omega arith))
 
-module _ (s : List ℕ) (count : ℕ) (within : count ≤ 8 * length s) where
-  pub length-rest : (i : ℕ) → length (rest s count i) ≡ count - i
-  length-rest i = length-drop i (take count (bits s)) ∙ omega (arith, length-take count (bits s), length-bits s)
+  pub found : i ≤ count → trailingZeros 64 m < 40 → (until (sought o) (rest s count i) ≡ trailingZeros 64 m) × (i + trailingZeros 64 m ≤ count)
+  found h below =
+      let e : until (sought o) (rest s count i) ≡ trailingZeros 64 m = rw (lt-ltb (trailingZeros 64 m) 40 below) at told in
+      (e, omega (arith, until-le (sought o) (rest s count i), length-rest s count within i))
 
-  -- n of them, and w their value
-  module _ (i n w : ℕ) (en : n ≡ min 56 (count - i)) (ew : w ≡ value (take n (drop i (bits s)))) where
-    window-is : take n (drop i (bits s)) ≡ take 56 (rest s count i)
-    window-is = rw (en, drop-take i count (bits s), take-take-min 56 (count - i) (drop i (bits s)))
-
-    pub window-fits : w < 2 ^ n
-    window-fits = rw ew (front-lt n (drop i (bits s)))
-
-    seen : lowest n w ≡ take 56 (rest s count i)
-    seen = ap (lowest n) ew ∙ front-is n (drop i (bits s)) (omega (arith, length-drop i (bits s), length-bits s)) ∙ window-is
-
-    module _ (o : Bool) (m : ℕ) (em : m ≡ value (marks (sought o) (lowest n w))) where
-      told : until (sought o) (rest s count i)
-          ≡ cond (ltb (trailingZeros 64 m) 40) (trailingZeros 64 m)
-          (length (take 40 (rest s count i)) + until (sought o) (drop (length (take 40 (rest s count i))) (rest s count i)))
-      told = rw (em, seen) (until-window (sought o) 16 (sees o) 40 56 64 (rest s count i) (omega arith) (omega arith))
-
-      pub found : i ≤ count → trailingZeros 64 m < 40 → (until (sought o) (rest s count i) ≡ trailingZeros 64 m) × (i + trailingZeros 64 m ≤ count)
-      found h below =
-          let e : until (sought o) (rest s count i) ≡ trailingZeros 64 m = rw (lt-ltb (trailingZeros 64 m) 40 below) at told in
-          (e, omega (arith, until-le (sought o) (rest s count i), length-rest i))
-
-      pub passed : (r : ℕ) → r ≡ min 40 n → 40 ≤ trailingZeros 64 m → i + until (sought o) (rest s count i) ≡ i + r + until (sought o) (rest s count (i + r))
-      passed r er h =
-          let e : length (take 40 (rest s count i)) ≡ r = length-take 40 (rest s count i) ∙ omega (arith, length-rest i) in
-          ap (_+_ i) (rw (le-ltb (trailingZeros 64 m) 40 h, e, drop-drop r i (take count (bits s))) at told) ∙ sym (add-assoc i r (until (sought o) (rest s count (i + r))))
+  pub passed : (r : ℕ) → r ≡ min 40 n → 40 ≤ trailingZeros 64 m → i + until (sought o) (rest s count i) ≡ i + r + until (sought o) (rest s count (i + r))
+  passed r er h =
+      let e : length (take 40 (rest s count i)) ≡ r = length-take 40 (rest s count i) ∙ omega (arith, length-rest s count within i) in
+      ap (_+_ i) (rw (le-ltb (trailingZeros 64 m) 40 h, e, drop-drop r i (take count (bits s))) at told) ∙ sym (add-assoc i r (until (sought o) (rest s count (i + r))))

@@ -9,6 +9,7 @@ use lib.ListN.{drop}
 use lib.Seq.{slice}
 use Rattle.bits.specs.Bits.{bits}
 use Rattle.zeros.specs.Zeros.{stuff}
+use Rattle.zeros.specs.Parts.{Calm}
 use Rattle.line.specs.Line.{flag, opens, ends, next, closed}
 
 -- what is sought: a flag that opens, or what ends a stretch
@@ -31,3 +32,4 @@ pub record Lies (line : List Bool) (count place b e : ℕ) : Type 0 where
   pub within : e ≤ count
   pub reads : next line place ≡ cond (ltb e count) (some (closed e (drop e line) (slice b e line))) none
   pub stands : e < count → ends (drop e line) ≡ true
+  pub calm : e < count → Calm 5 (slice b e line)

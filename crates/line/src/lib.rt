@@ -127,7 +127,7 @@ pub fn next(line: &[u8], count: usize, place: usize, out: &mut [u8]) -> TakenOff
             place: 0,
         };
     }
-    let n = zeros::carried_length(line, begin, end, false);
+    let n = zeros::plain_length(line, begin, end);
     let refusal = between_refusal(one_at(line, end), n);
     if refusal != 0 {
         return TakenOff {
@@ -215,7 +215,7 @@ fn no_room(n: usize, begin: usize, frame: &[u8]) -> bool
     if !lacks(n, begin, end + end / 5 + 8) {
         return false;
     }
-    let sent = zeros::carried_length(frame, 0, end, true);
+    let sent = zeros::sent_length(frame, 0, end);
     lacks(n, begin, sent + 8)
 }
 

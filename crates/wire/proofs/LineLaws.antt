@@ -13,6 +13,7 @@ use Rattle.bits.specs.Bits.{bits}
 use Rattle.bits.proofs.BitLaws.{length-bits, octets-of-bits}
 use Rattle.bits.specs.Places.{begins, until}
 use Rattle.zeros.specs.Zeros.{stuff, unstuff}
+use Rattle.zeros.specs.Parts.{Calm}
 use Rattle.line.specs.Line.{flag, flagHere, sevenOnes, opens, ends, next, begin, reading, closed, betweenRefusal}
 
 -- ---- a zero after five ones
@@ -30,13 +31,6 @@ stuff-long n [] = le-refl 0
 stuff-long n (false ∷ bs) = omega (arith, stuff-long 4 bs)
 stuff-long zero (true ∷ bs) = omega (arith, stuff-long 4 bs)
 stuff-long (suc n) (true ∷ bs) = omega (arith, stuff-long n bs)
-
--- at most n ones, and from the next zero on never more than five in a row
-abbrev pub Calm : ℕ → List Bool → Type 0
-Calm n [] = Unit {0}
-Calm n (false ∷ bs) = Calm 5 bs
-Calm zero (true ∷ bs) = ⊥
-Calm (suc n) (true ∷ bs) = Calm n bs
 
 pub stuff-calm : (n : ℕ) (bs : List Bool) → Calm (suc n) (stuff n bs)
 unfolding stuff

@@ -67,13 +67,6 @@ pub carried-empty : (w : Bool) → carried w [] ≡ []
 carried-empty w = carried-at w [] ∙ at-end w 4
 
 -- how long bits become
-pub unstuff-short : (n : ℕ) (bs : List Bool) → length (unstuff n bs) ≤ length bs
-unfolding unstuff
-unstuff-short n [] = le-refl 0
-unstuff-short zero (b ∷ bs) = omega (arith, unstuff-short 5 bs)
-unstuff-short (suc n) (true ∷ bs) = omega (arith, unstuff-short n bs)
-unstuff-short (suc n) (false ∷ bs) = omega (arith, unstuff-short 5 bs)
-
 stuff-most-from : (n : ℕ) (bs : List Bool) → n ≤ 4 → 5 * length (stuff n bs) + n ≤ 6 * length bs + 4
 unfolding stuff
 stuff-most-from n [] h = omega arith

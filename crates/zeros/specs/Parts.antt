@@ -1,7 +1,7 @@
 -- How the code works on many bits at once. No call's promise cites what stands here.
-use Prim.Native.Nat.{ℕ, suc, _+_, _*_, _^_, _≤_, _<_}
+use Prim.Native.Nat.{ℕ, zero, suc, _+_, _*_, _^_, _≤_, _<_}
 use mathlib.Core.Path.{_≡_}
-use mathlib.Core.Bool.{Bool, true, false}
+use mathlib.Core.Bool.{Bool, true, false, cond}
 use mathlib.Core.List.{List, [], _∷_, _++_}
 use lib.ListN.{length, take, drop}
 use Rattle.bits.specs.Bits.{bits, lowest}
@@ -10,6 +10,22 @@ use Rattle.zeros.specs.Zeros.{stuff, unstuff}
 
 abbrev pub fiveOnes : List Bool → Bool
 fiveOnes = begins (true ∷ true ∷ true ∷ true ∷ true ∷ [])
+
+-- a zero behind five ones
+abbrev pub zeroBehind : List Bool → Bool
+zeroBehind = begins (true ∷ true ∷ true ∷ true ∷ true ∷ false ∷ [])
+
+-- how many places there are where the test holds of what is left
+unfoldable pub places : (List Bool → Bool) → List Bool → ℕ
+places test [] = 0
+places test (b ∷ bs) = cond (test (b ∷ bs)) 1 0 + places test bs
+
+-- at most n ones, and from the next zero on never more than five in a row
+abbrev pub Calm : ℕ → List Bool → Type 0
+Calm n [] = Unit {0}
+Calm n (false ∷ bs) = Calm 5 bs
+Calm zero (true ∷ bs) = ⊥
+Calm (suc n) (true ∷ bs) = Calm n bs
 
 -- what bits become where they are written, and where they are read
 abbrev pub carried : Bool → List Bool → List Bool

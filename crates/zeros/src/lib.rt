@@ -7,7 +7,8 @@ ghost use lib.ListN.{length, take};
 ghost use lib.Seq.{slice};
 ghost use Rattle.bits.specs.Bits.{bits, lowest, value};
 ghost use Rattle.bits.specs.Places.{until};
-ghost use Rattle.zeros.specs.Parts.{fiveOnes, carried, Some, More};
+ghost use Rattle.zeros.specs.Zeros.{stuff, unstuff};
+ghost use Rattle.zeros.specs.Parts.{fiveOnes, zeroBehind, places, Calm, carried, Some, More};
 
 // How many bits go by before five ones begin; 64 where none do.
 fn fives(w: u64) -> usize
@@ -73,19 +74,46 @@ fn carry_some(s: &[u8], i: usize, end: usize, writing: bool) -> Piece
     carry_word(w, octets::lesser(44, left), writing)
 }
 
-// How many bits the bits from begin to end become. The callers keep within the slice and show that the sum fits.
-pub fn carried_length(s: &[u8], begin: usize, end: usize, writing: bool) -> usize
-    requires { ⌜ (begin ≤ end) × (end ≤ 8 * length (now s)) × (end < 18446744073709551615) × (length (carried writing (slice begin end (bits (now s)))) < 18446744073709551616) ⌝ }
-    ensures { λ r. ⌜ r ≡ length (carried writing (slice begin end (bits (now (s .entry))))) ⌝ }
+// How many bits those from begin to end become where they are written. The callers show that the sums fit.
+pub fn sent_length(s: &[u8], begin: usize, end: usize) -> usize
+    requires { ⌜ (begin ≤ end) × (end ≤ 8 * length (now s)) × (end < 18446744073709551615) × (length (stuff 4 (slice begin end (bits (now s)))) < 18446744073709551616) ⌝ }
+    ensures { λ r. ⌜ r ≡ length (stuff 4 (slice begin end (bits (now (s .entry))))) ⌝ }
 {
     let mut i = begin;
     let mut total: usize = 0;
     while i < end {
-        let piece = carry_some(s, i, end, writing);
+        let piece = carry_some(s, i, end, true);
         total += piece.n;
         i += piece.taken;
     }
     total
+}
+
+// How many zeros of n bits stand behind five ones that are all among them.
+fn zeros_behind(w: u64, n: usize) -> usize
+    requires { ⌜ (n ≤ 56) × (w < 2 ^ n) ⌝ }
+    ensures { λ r. ⌜ r ≡ places zeroBehind (lowest n w) ⌝ }
+{
+    let zeros = ((1 << n) - 1) - w;
+    let two = w & (w >> 1);
+    u64::count_ones(two & (two >> 2) & (w >> 4) & (zeros >> 5)) as usize
+}
+
+// How many bits those from begin to end become where they are read. The callers show that six ones never stand there in a row, so what is
+// left out is a zero, and the zeros are counted; of 56 bits the first 51 are seen with the five behind them.
+pub fn plain_length(s: &[u8], begin: usize, end: usize) -> usize
+    requires { ⌜ (begin ≤ end) × (end ≤ 8 * length (now s)) × Calm 5 (slice begin end (bits (now s))) ⌝ }
+    ensures { λ r. ⌜ r ≡ length (unstuff 5 (slice begin end (bits (now (s .entry))))) ⌝ }
+{
+    let mut i = begin;
+    let mut out: usize = 0;
+    while 56 < end - i {
+        out += zeros_behind(bits::window(s, i, 56), 56);
+        i += 51;
+    }
+    let n = end - i;
+    let last = zeros_behind(bits::window(s, i, n), n);
+    end - begin - (out + last)
 }
 
 // Bits that do not make an octet yet: n of them, for the octet at `at`.

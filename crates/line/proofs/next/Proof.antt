@@ -4,11 +4,12 @@ use mathlib.Core.Path.{_≡_, sym, ap, _∙_}
 use native.Mathlib.Omega.{arith}
 use lib.Dec.{ltb, lit<}
 use lib.ListN.{length}
-use lib.Seq.{slice}
+use lib.Seq.{slice, take-take}
 use Rattle.bits.specs.Bits.{bits}
 use Rattle.zeros.specs.Zeros.{unstuff}
+use Rattle.zeros.specs.Parts.{Calm}
 use Rattle.line.specs.Calls.{past}
-use Rattle.line.proofs.NextLaws.{bounds, between-short, next-14, next-none, next-refused, next-short, next-done, whole-octets}
+use Rattle.line.proofs.NextLaws.{bounds, next-14, next-none, next-refused, next-short, next-done, whole-octets}
 use borrow.Author.Needs.{needs}
 use Rattle.line.proofs.next.Statement.{statement}
 use Rattle.line.proofs.next.Tie as tie
@@ -47,12 +48,13 @@ ends-before c =
     let before : suc (c .before .find .result .end) ≤ a .count = omega (arith, c .before .find .ensures .within) in
     (bounds (length (a .line .now)) (a .count) (a .place) (within (c .before .before)) .0, before, omega arith)
 
-carried-length-requires : tie.Need-carried-length-requires
-carried-length-requires c κs =
+plain-length-requires : tie.Need-plain-length-requires
+plain-length-requires c κs =
     let a = c .before .before .before .before .before .before .args in
     let s = c .before .find in
     let w = ends-before c in
-    (s .ensures .ordered, omega (arith, w .0, w .1), w .2, omega (arith, between-short (a .line .now) (a .count) (s .result .begin) (s .result .end) (w .0) (s .ensures .within)))
+    let calm : Calm 5 (slice (s .result .begin) (s .result .end) (bits (a .line .now))) = rw (take-take (s .result .end) (a .count) (bits (a .line .now)) (s .ensures .within)) at (s .ensures .calm (w .1)) in
+    (s .ensures .ordered, omega (arith, w .0, w .1), calm)
 
 one-at-requires : tie.Need-one-at-requires
 one-at-requires c κs = let w = ends-before (c .before) in omega (arith, w .0, w .1)
@@ -69,7 +71,7 @@ returns-3 c =
     let s = e .before .find in
     let a = e .before .before .before .before .before .before .args in
     next-refused (a .line .now) (a .out .now) (a .count) (a .place) (s .result .begin) (s .result .end) (within (e .before .before)) (s .ensures) (e .if2 .left)
-    (n .carried-length .result) (r .between-refusal .result) (o .one-at .result) (n .carried-length .ensures) (o .one-at .ensures) (r .between-refusal .ensures) (c .if3 .taken)
+    (n .plain-length .result) (r .between-refusal .result) (o .one-at .result) (n .plain-length .ensures) (o .one-at .ensures) (r .between-refusal .ensures) (c .if3 .taken)
 
 returns-4 : tie.Need-returns-4
 returns-4 c =
@@ -80,7 +82,7 @@ returns-4 c =
     let s = e .before .find in
     let a = e .before .before .before .before .before .before .args in
     next-short (a .line .now) (a .out .now) (a .count) (a .place) (s .result .begin) (s .result .end) (within (e .before .before)) (s .ensures) (e .if2 .left)
-    (n .carried-length .result) (r .between-refusal .result) (o .one-at .result) (n .carried-length .ensures) (o .one-at .ensures) (r .between-refusal .ensures) (c .before .if3 .left) (omega arith)
+    (n .plain-length .result) (r .between-refusal .result) (o .one-at .result) (n .plain-length .ensures) (o .one-at .ensures) (r .between-refusal .ensures) (c .before .if3 .left) (omega arith)
 
 carry-requires : tie.Need-carry-requires
 carry-requires c κs =
@@ -92,8 +94,8 @@ carry-requires c κs =
     let w = ends-before e in
     let fits : s .result .end ≤ 8 * length (a .line .now) = omega (arith, w .0, w .1) in
     let u = unstuff 5 (slice (s .result .begin) (s .result .end) (bits (a .line .now))) in
-    let whole : length u % 8 ≡ 0 = sym (ap (λ (x : ℕ). x % 8) (n .carried-length .ensures)) ∙ whole-octets (n .carried-length .result) (r .between-refusal .result) (r .before .one-at .result) (r .between-refusal .ensures) (c .before .before .if3 .left) in
-    let room : 8 * 0 + 0 + length u ≤ 8 * length (a .out .now) = omega (arith, n .carried-length .ensures) in
+    let whole : length u % 8 ≡ 0 = sym (ap (λ (x : ℕ). x % 8) (n .plain-length .ensures)) ∙ whole-octets (n .plain-length .result) (r .between-refusal .result) (r .before .one-at .result) (r .between-refusal .ensures) (c .before .before .if3 .left) in
+    let room : 8 * 0 + 0 + length u ≤ 8 * length (a .out .now) = omega (arith, n .plain-length .ensures) in
     (s .ensures .ordered, fits, w .2, lit< tt, lit< tt, room)
 
 same-length : tie.Need-same-length
@@ -110,7 +112,7 @@ returns-5 c =
     let a = e .before .before .before .before .before .before .args in
     let k = y .carry in
     next-done (a .line .now) (a .out .now) (a .count) (a .place) (s .result .begin) (s .result .end) (within (e .before .before)) (s .ensures) (e .if2 .left)
-    (n .carried-length .result) (r .between-refusal .result) (o .one-at .result) (n .carried-length .ensures) (o .one-at .ensures) (r .between-refusal .ensures)
+    (n .plain-length .result) (r .between-refusal .result) (o .one-at .result) (n .plain-length .ensures) (o .one-at .ensures) (r .between-refusal .ensures)
     (k .last .1 .1 .1 .1 .0) (k .result .at) (k .result .bits) (k .result .n) (λ i. omega (arith, c .slice-known2 .given i)) (y .before .before .before .if3 .left) (omega arith) (k .ensures)
 
 pub next-spec : {M : Type 1} → statement M
@@ -121,7 +123,7 @@ next-spec =
     returns
     find-requires
     returns-2
-    carried-length-requires
+    plain-length-requires
     one-at-requires
     between-refusal-requires
     returns-3

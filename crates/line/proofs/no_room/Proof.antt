@@ -28,11 +28,11 @@ returns c =
     let a = c .before .before .before .args in
     room-for-most (a .n) (a .begin) (a .frame .now) (sym (c .before .lacks .ensures) ∙ not-true _ (c .if1 .taken))
 
-carried-length-requires : tie.Need-carried-length-requires
-carried-length-requires c κs = all-bits (c .before .before .before .args .frame .now) (c .before .before .before .pre)
+sent-length-requires : tie.Need-sent-length-requires
+sent-length-requires c κs = all-bits (c .before .before .before .args .frame .now) (c .before .before .before .pre)
 
-sent-is : (c : tie.After-carried-length) → c .carried-length .result ≡ length (sentAs (c .before .before .before .before .args .frame .now))
-sent-is c = c .carried-length .ensures ∙ ap (λ b. length (stuff 4 b)) (whole-frame (c .before .before .before .before .args .frame .now))
+sent-is : (c : tie.After-sent-length) → c .sent-length .result ≡ length (sentAs (c .before .before .before .before .args .frame .now))
+sent-is c = c .sent-length .ensures ∙ ap (λ b. length (stuff 4 b)) (whole-frame (c .before .before .before .before .args .frame .now))
 
 add-lacks-3 : tie.Need-add-lacks-3
 add-lacks-3 c = omega (arith, sent-is c, sent-most (c .before .before .before .before .args .frame .now))
@@ -54,7 +54,7 @@ no-room-spec =
     add-lacks-2
     lacks-requires
     returns
-    carried-length-requires
+    sent-length-requires
     add-lacks-3
     lacks-requires-2
     returns-2)

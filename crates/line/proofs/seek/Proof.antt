@@ -11,7 +11,8 @@ use Rattle.bits.specs.Bits.{bits}
 use Rattle.bits.specs.Places.{until}
 use Rattle.bits.proofs.UntilLaws.{until-end}
 use Rattle.line.specs.Parts.{sought}
-use Rattle.line.proofs.SeekLaws.{rest, window-fits, found, passed}
+use Rattle.bits.proofs.WindowLaws.{rest, window-fits}
+use Rattle.line.proofs.SeekLaws.{found, passed}
 use Rattle.line.proofs.seek.Statement.{statement}
 use Rattle.line.proofs.seek.Tie as tie
 
@@ -38,7 +39,7 @@ mark-requires c κs =
     let l = c .before .before .before in
     let s = l .before .before in (
       omega (arith, c .before .lesser .ensures),
-      window-fits (s .args .line .now) (s .args .count) (s .pre .1) (l .loop .i) (c .before .lesser .result) (c .window .result) (c .before .lesser .ensures)
+      window-fits (s .args .line .now) (s .args .count) (s .pre .1) 56 (l .loop .i) (c .before .lesser .result) (c .window .result) (c .before .lesser .ensures)
           (c .window .ensures),
     )
 

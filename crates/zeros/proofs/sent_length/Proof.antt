@@ -1,32 +1,33 @@
--- `zeros::carried_length` meets its contract: what is counted and what the rest becomes make the whole.
+-- `zeros::sent_length` meets its contract: what is counted and what the rest becomes make the whole.
 use Prim.Native.Nat.{_+_, _-_, _≤_}
 use mathlib.Core.Path.{_≡_, sym, ap, _∙_}
+use mathlib.Core.Bool.{true}
 use native.Mathlib.Nat.{add-zero, zero-add}
 use native.Mathlib.Omega.{arith}
 use lib.ListN.{length}
 use Rattle.zeros.proofs.PourLaws.{become, some-within, some-length, become-none}
-use Rattle.zeros.proofs.carried_length.Statement.{statement}
-use Rattle.zeros.proofs.carried_length.Tie as tie
+use Rattle.zeros.proofs.sent_length.Statement.{statement}
+use Rattle.zeros.proofs.sent_length.Tie as tie
 
 abbrev Inv-loop : tie.InvT-loop
-Inv-loop s begin end writing i₀ total₀ i total =
-    (i ≤ end + 1) × (total + length (become writing s end i) ≡ length (become writing s end begin))
+Inv-loop s begin end i₀ total₀ i total =
+    (i ≤ end + 1) × (total + length (become true s end i) ≡ length (become true s end begin))
 
 abbrev μ-loop : tie.MeasureT-loop
-μ-loop s begin end writing i₀ total₀ i total = end + 1 - i
+μ-loop s begin end i₀ total₀ i total = end + 1 - i
 
 -- a turn's piece
 turn : (c : tie.After-carry-some Inv-loop μ-loop) → let a = c .before .before .before .before .args in let l = c .before .before .loop in let p = c .carry-some .result in
     (l .i + p .taken ≤ a .end + 1)
-    × (length (become (a .writing) (a .s .now) (a .end) (l .i)) ≡ p .n + length (become (a .writing) (a .s .now) (a .end) (l .i + p .taken)))
+    × (length (become true (a .s .now) (a .end) (l .i)) ≡ p .n + length (become true (a .s .now) (a .end) (l .i + p .taken)))
 turn c =
     let s = c .before .before .before .before in
     let a = s .args in
     let i = c .before .before .loop .i in
     let p = c .carry-some .result in
     let h = c .before .loop-test .taken in (
-      some-within (a .writing) (a .s .now) (a .end) i (p .bits) (p .n) (p .taken) h (s .pre .1) (c .carry-some .ensures),
-      some-length (a .writing) (a .s .now) (a .end) i (p .bits) (p .n) (p .taken) h (s .pre .1) (c .carry-some .ensures),
+      some-within true (a .s .now) (a .end) i (p .bits) (p .n) (p .taken) h (s .pre .1) (c .carry-some .ensures),
+      some-length true (a .s .now) (a .end) i (p .bits) (p .n) (p .taken) h (s .pre .1) (c .carry-some .ensures),
     )
 
 loop-holds : tie.Need-loop-holds Inv-loop μ-loop
@@ -51,10 +52,10 @@ returns : tie.Need-returns Inv-loop μ-loop
 returns c =
     let a = c .before .before .before .args in
     let l = c .before .loop in
-    sym (add-zero (l .total)) ∙ ap (λ n. l .total + n) (sym (ap length (become-none (a .writing) (a .s .now) (a .end) (l .i) (c .loop-test .left)))) ∙ l .inv .1
+    sym (add-zero (l .total)) ∙ ap (λ n. l .total + n) (sym (ap length (become-none true (a .s .now) (a .end) (l .i) (c .loop-test .left)))) ∙ l .inv .1
 
-pub carried-length-spec : {M : Type 1} → statement M
-carried-length-spec =
+pub sent-length-spec : {M : Type 1} → statement M
+sent-length-spec =
     tie.close
     (tie.spec
     Inv-loop
