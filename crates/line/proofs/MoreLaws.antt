@@ -3,15 +3,16 @@ use Prim.Native.Nat.{ℕ, zero, suc, _+_, _-_, _*_, _/_, _%_, _^_, _≤_, _<_}
 use mathlib.Core.Path.{_≡_, refl, sym, ap, ap₂, _∙_}
 use mathlib.Core.Bool.{Bool}
 use mathlib.Core.List.{List, [], _∷_, _++_, append-assoc, append-nil}
-use native.Mathlib.Nat.{not-suc-le-zero, mod-eq-of-lt}
+use native.Mathlib.Nat.{not-suc-le-zero, lt-of-lt-of-le}
 use native.Mathlib.Omega.{arith}
 use lib.ListN.{length, getD, set, take, drop, length-append, length-drop, take-append-drop}
-use lib.Dec.{lit<, lit≤}
-use lib.Pow.{shr-lt, pow-mono}
-use lib.Seq.{drop-drop, drop-cons, drop-at, take-at, set-split, take-add, length-take-le}
+use lib.Dec.{lit<}
+use lib.Pow.{pow-mono, shl-exact}
+use lib.Seq.{drop-drop, take-add}
 use Rattle.bits.specs.Bits.{bits, lowest, value, octetsOf}
-use Rattle.bits.proofs.BitLaws.{length-bits, length-lowest, length-octets, bits-append, bits-drop, bits-take, value-lt, lowest-append, lowest-split, lowest-value, joined-lt, octets-of-bits, octet-take, poured}
+use Rattle.bits.proofs.BitLaws.{length-bits, length-lowest, bits-append, bits-drop, bits-take, front-lt, front-is, lowest-append, joined-lt, octets-of-bits, octet-take}
 use Rattle.zeros.specs.Parts.{More}
+use Rattle.zeros.proofs.PourLaws.{Step, poured-none, poured-step, poured-all}
 use Rattle.line.specs.Line.{flag}
 use Rattle.line.specs.Parts.{opened}
 use Rattle.line.proofs.FindLaws.{length-line}
@@ -67,13 +68,11 @@ open-more f count w some h e =
     let q : ℕ = 8 * (count / 8) in
     let eq : count - n ≡ q = omega arith in
     let lb : length (bits f) ≡ 8 * length f = length-bits f in
-    let part : List Bool = take n (drop q (bits f)) in
-    let lp : length part ≡ n = length-take-le n (drop q (bits f)) (omega (arith, length-drop q (bits f))) in
-    let held : lowest n w ≡ part = ap (lowest n) (e ∙ ap (λ (k : ℕ). value (take n (drop k (bits f)))) eq) ∙ ap (λ (k : ℕ). lowest k (value part)) (sym lp) ∙ lowest-value part in
+    let held : lowest n w ≡ take n (drop q (bits f)) = rw (e, eq) (front-is n (drop q (bits f)) (omega (arith, length-drop q (bits f)))) in
     let whole : q + n ≡ count = omega arith in
     record {
       short = omega arith;
-      fits = rw (e, eq) (rw lp at (value-lt part));
+      fits = rw e (front-lt n (drop (count - n) (bits f)));
       far = rw (opened-some count (bits f) (omega arith) (omega arith), length-line f count h) (omega arith);
       is = ap₂ (λ (x y : List Bool). x ++ y) (sym (bits-take (count / 8) f)) held ∙ sym (take-add q n (bits f)) ∙ ap (λ (k : ℕ). take k (bits f)) whole
           ∙ sym (opened-some count (bits f) (omega arith) (omega arith));
@@ -83,81 +82,66 @@ open-more f count w some h e =
 
 -- ---- the end
 
--- the lowest n bits of an octet are those that are held, and its higher bits are as they came
-pub finished : (f : List ℕ) (at held n : ℕ) → n < 8 → held < 2 ^ n → at < length f
-    → bits (set f at (getD f at 0 / 2 ^ n * 2 ^ n + held)) ≡ bits (take at f) ++ lowest n held ++ drop (8 * at + n) (bits f)
-unfolding bits
-finished f at held n hn lt h =
-    let x : ℕ = getD f at 0 in
-    let behind : List ℕ = drop (suc at) f in
-    let e : n + (8 - n) ≡ 8 = omega arith in
-    let c : x / 2 ^ n * 2 ^ n + held ≡ held + x / 2 ^ n * 2 ^ n = omega arith in
-    let new : lowest 8 (x / 2 ^ n * 2 ^ n + held) ≡ lowest n held ++ lowest (8 - n) (x / 2 ^ n) =
-    ap₂ lowest (sym e) c ∙ lowest-append n (8 - n) held (x / 2 ^ n) lt in
-    let old : lowest 8 x ≡ lowest n x ++ lowest (8 - n) (x / 2 ^ n) = ap (λ (k : ℕ). lowest k x) (sym e) ∙ lowest-split n (8 - n) x in
-    let rest : drop (8 * at + n) (bits f) ≡ lowest (8 - n) (x / 2 ^ n) ++ bits behind =
-    sym (drop-drop n (8 * at) (bits f)) ∙ ap (drop n) (bits-drop at f ∙ ap bits (drop-cons f at 0 h))
-    ∙ ap (λ (l : List Bool). drop n (l ++ bits behind)) old ∙ ap (drop n) (append-assoc (lowest n x) (lowest (8 - n) (x / 2 ^ n)) (bits behind))
-    ∙ drop-at (lowest n x) (lowest (8 - n) (x / 2 ^ n) ++ bits behind) n (length-lowest n x) in
-    ap bits (set-split f at (x / 2 ^ n * 2 ^ n + held) h) ∙ bits-append (take at f) ((x / 2 ^ n * 2 ^ n + held) ∷ behind)
-    ∙ ap (λ (l : List Bool). bits (take at f) ++ (l ++ bits behind)) new
-    ∙ ap (λ (l : List Bool). bits (take at f) ++ l) (append-assoc (lowest n held) (lowest (8 - n) (x / 2 ^ n)) (bits behind))
-    ∙ sym (append-assoc (bits (take at f)) (lowest n held) (lowest (8 - n) (x / 2 ^ n) ++ bits behind))
-    ∙ ap (λ (l : List Bool). bits (take at f) ++ lowest n held ++ l) (sym rest)
-
-pub nothing-held : (f : List ℕ) (at held n : ℕ) → n ≡ 0 → bits f ≡ bits (take at f) ++ lowest n held ++ drop (8 * at + n) (bits f)
-unfolding lowest
-nothing-held f at held n z =
-    let e : 8 * at + 0 ≡ 8 * at = omega arith in
-    rw (z, e, bits-drop at f, append-nil (bits (take at f))) (ap bits (sym (take-append-drop at f)) ∙ bits-append (take at f) (drop at f))
-
 -- what stands behind is as it came
 pub behind : (f g : List ℕ) (at n : ℕ) → drop at g ≡ drop at f → drop (8 * at + n) (bits g) ≡ drop (8 * at + n) (bits f)
 behind f g at n e =
     sym (drop-drop n (8 * at) (bits g)) ∙ ap (drop n) (bits-drop at g ∙ ap bits e ∙ sym (bits-drop at f)) ∙ drop-drop n (8 * at) (bits f)
 
--- ---- the closing flag
+-- all bits, where none is held
+pub more-all : (f g : List ℕ) (at held n at₂ held₂ n₂ : ℕ) (more : List Bool) → More f g at held n more at₂ held₂ n₂ → n₂ ≡ 0
+    → bits g ≡ bits (take at f) ++ lowest n held ++ more ++ drop (8 * at + n + length more) (bits f)
+unfolding lowest
+more-all f g at held n at₂ held₂ n₂ more m z =
+    let e : 8 * at₂ + n₂ ≡ 8 * at₂ = omega arith in
+    let whole : bits g ≡ bits (take at₂ g) ++ lowest n₂ held₂ ++ drop (8 * at₂ + n₂) (bits g) =
+    rw (e, bits-drop at₂ g, z, append-nil (bits (take at₂ g))) (ap bits (sym (take-append-drop at₂ g)) ∙ bits-append (take at₂ g) (drop at₂ g)) in
+    whole ∙ ap₂ (λ (u v : List Bool). u ++ v) (m .is) (behind f g at₂ n₂ (m .rest) ∙ ap (λ (k : ℕ). drop k (bits f)) (m .far))
 
--- the octet that the last bits are put into
-pub joined-octet : (x held n : ℕ) → n < 8 → x < 256 → held < 2 ^ n → (x / 2 ^ n * 2 ^ n % 256 ≡ x / 2 ^ n * 2 ^ n) × (x / 2 ^ n * 2 ^ n + held < 256)
-joined-octet x held n hn hx hh =
-    let e : n + (8 - n) ≡ 8 = omega arith in
-    let f : 8 - n + n ≡ 8 = omega arith in
-    let q : x / 2 ^ n < 2 ^ (8 - n) = shr-lt (8 - n) n (rw f hx) in
-    let s : held + x / 2 ^ n * 2 ^ n < 256 = rw e at (joined-lt n (8 - n) held (x / 2 ^ n) hh q) in
-    (mod-eq-of-lt (omega arith), omega arith)
+-- the closing flag, and behind it w, the bits that are left of its last octet
+module _ (f : List ℕ) (at held n w : ℕ) (hn : n < 8) (hh : held < 2 ^ n) (room : 8 * at + n + 8 ≤ 8 * length f)
+    (ew : w ≡ value (take ((8 - n) % 8) (drop (8 * at + n + 8) (bits f)))) where
+  abbrev left : ℕ
+  left = (8 - n) % 8
 
--- a word of the bits that are held and a flag
-pub flag-fits : (held n : ℕ) → n < 8 → held < 2 ^ n → (126 * 2 ^ n % 18446744073709551616 ≡ 126 * 2 ^ n) × (held + 126 * 2 ^ n < 2 ^ (n + 8))
-flag-fits held n hn hh =
-    let s : held + 126 * 2 ^ n < 2 ^ (n + 8) = joined-lt n 8 held 126 hh (lit< tt) in
-    let t : 2 ^ (n + 8) ≤ 2 ^ 16 = pow-mono {i = n + 8} {j = 16} (omega arith) in
-    (mod-eq-of-lt (omega arith), s)
+  abbrev x : ℕ
+  x = 126 + w * 256
 
-module _ (f g : List ℕ) (at held n : ℕ) (hn : n < 8) (hh : held < 2 ^ n) (room : at + 1 ≤ length f)
-    (put : g ≡ take at f ++ octetsOf 1 (lowest 64 (held + 126 * 2 ^ n)) ++ drop (at + 1) f) where
-  abbrev word : ℕ
-  word = held + 126 * 2 ^ n
+  fits : w < 2 ^ left
+  fits = rw ew (front-lt left (drop (8 * at + n + 8) (bits f)))
 
-  front-length : length (take at f ++ octetsOf 1 (lowest 64 word)) ≡ at + 1
-  front-length = length-append (take at f) (octetsOf 1 (lowest 64 word)) ∙ ap₂ _+_ (length-take-le at f (omega arith)) (length-octets 1 (lowest 64 word))
+  up : w * 256 % 18446744073709551616 ≡ w * 256
+  up = shl-exact {a = w} left 8 64 fits (omega arith)
 
-  pub left-over : word / 256 ^ 1 < 2 ^ n
-  left-over = shr-lt n 8 (flag-fits held n hn hh .1)
-
-  pub flag-put : (x : List Bool) → x ≡ bits (take (at + 1) g) ++ lowest n (word / 256 ^ 1) ++ drop (8 * (at + 1) + n) (bits g)
-      → x ≡ bits (take at f) ++ lowest n held ++ flag ++ drop (8 * at + n + 8) (bits f)
+  flag-left : lowest (8 + left) x ≡ flag ++ take left (drop (8 * at + n + 8) (bits f))
   unfolding lowest
-  flag-put x ex =
-      let front : bits (take (at + 1) g) ≡ bits (take at f) ++ bits (octetsOf 1 (lowest 64 word)) =
-      ap (λ (l : List ℕ). bits (take (at + 1) l)) put ∙ ap bits (take-at (take at f ++ octetsOf 1 (lowest 64 word)) (drop (at + 1) f) (at + 1) front-length)
-      ∙ bits-append (take at f) (octetsOf 1 (lowest 64 word)) in
-      let back : drop (at + 1) g ≡ drop (at + 1) f = ap (drop (at + 1)) put ∙ drop-at (take at f ++ octetsOf 1 (lowest 64 word)) (drop (at + 1) f) (at + 1) front-length in
-      let eight : 8 * 1 + n ≡ n + 8 = omega arith in
-      let made : bits (octetsOf 1 (lowest 64 word)) ++ lowest n (word / 256 ^ 1) ≡ lowest n held ++ flag =
-      poured 1 n word (lit≤ tt) ∙ ap (λ (k : ℕ). lowest k word) eight ∙ lowest-append n 8 held 126 hh in
-      let e : 8 * (at + 1) + n ≡ 8 * at + n + 8 = omega arith in
-      ex ∙ ap₂ (λ (u v : List Bool). u ++ lowest n (word / 256 ^ 1) ++ v) front (behind f g (at + 1) n back ∙ ap (λ (k : ℕ). drop k (bits f)) e)
-      ∙ ap (λ (l : List Bool). l ++ drop (8 * at + n + 8) (bits f))
-      (append-assoc (bits (take at f)) (bits (octetsOf 1 (lowest 64 word))) (lowest n (word / 256 ^ 1)) ∙ ap (λ (l : List Bool). bits (take at f) ++ l) made
-      ∙ sym (append-assoc (bits (take at f)) (lowest n held) flag))
+  flag-left =
+      lowest-append 8 left 126 w (lit< tt)
+      ∙ ap (λ (l : List Bool). flag ++ l)
+      (ap (lowest left) ew ∙ front-is left (drop (8 * at + n + 8) (bits f)) (omega (arith, length-drop (8 * at + n + 8) (bits f), length-bits f)))
+
+  step : Step f f at held n (lowest (8 + left) x) [] at held n x (8 + left)
+  step =
+      poured-step f f at held n (lowest (8 + left) x) (lowest (8 + left) x) [] at held n x (8 + left) (omega (arith, length-lowest (8 + left) x))
+      (poured-none f at held n (lowest (8 + left) x) hn hh) (sym (append-nil (lowest (8 + left) x))) (joined-lt 8 left 126 w (lit< tt) fits) (omega arith)
+
+  -- the numbers of the code fit
+  pub flag-fits : 126 + w * 256 % 18446744073709551616 < 2 ^ 64
+  flag-fits = rw up (lt-of-lt-of-le (joined-lt 8 left 126 w (lit< tt) fits) (pow-mono {i = 8 + left} {j = 64} (omega arith)))
+
+  put : (126 + w * 256 % 18446744073709551616) * 2 ^ n % 18446744073709551616 ≡ x * 2 ^ n
+  put = rw up (step .up)
+
+  pub put-fits : held + (126 + w * 256 % 18446744073709551616) * 2 ^ n % 18446744073709551616 < 2 ^ 64
+  put-fits = rw put (step .fits)
+
+  pub closed-by : (g : List ℕ)
+      → g ≡ take at f ++ octetsOf ((n + 15) / 8) (lowest 64 (held + (126 + w * 256 % 18446744073709551616) * 2 ^ n % 18446744073709551616)) ++ drop (at + (n + 15) / 8) f
+      → bits g ≡ bits (take at f) ++ lowest n held ++ flag ++ drop (8 * at + n + 8) (bits f)
+  closed-by g e =
+      let k : (n + 15) / 8 ≡ (n + (8 + left)) / 8 = omega arith in
+      let m = poured-all f g at held n (lowest (8 + left) x) [] (at + (n + (8 + left)) / 8) _ ((n + (8 + left)) % 8) (step .then g (rw (put, k) at e)) refl in
+      let all : 8 * at + n + length (lowest (8 + left) x) ≡ 8 * at + n + 8 + left = omega (arith, length-lowest (8 + left) x) in
+      let front : List Bool = bits (take at f) ++ lowest n held in
+      let rest : List Bool = drop (8 * at + n + 8) (bits f) in
+      more-all f g at held n _ _ _ (lowest (8 + left) x) m (omega arith)
+      ∙ rw (all, ← drop-drop left (8 * at + n + 8) (bits f), flag-left, ← append-assoc front flag (take left rest), append-assoc (front ++ flag) (take left rest) (drop left rest), take-append-drop left rest)

@@ -15,12 +15,11 @@ use Rattle.refusals.proofs.RefusalLaws.{if-taken, if-refused, refused-is, orEls
 use Rattle.bits.specs.Bits.{bits, value, octetsOf}
 use Rattle.bits.proofs.BitLaws.{length-octets}
 use Rattle.zeros.specs.Zeros.{unstuff}
-use Rattle.zeros.specs.Parts.{More}
+use Rattle.zeros.specs.Parts.{Calm, More}
 use Rattle.line.specs.Line.{sevenOnes, next, closed, betweenRefusal, Reading}
-use Rattle.line.specs.Parts.{Lies}
 use Rattle.line.specs.Calls.{past, told, heardOut, nextAnswer, nextOut}
 use Rattle.line.specs.declared.TakenOff.{TakenOff}
-use Rattle.line.proofs.FindLaws.{aborted-is}
+use Rattle.line.proofs.FindLaws.{Lies, aborted-is}
 use Rattle.line.proofs.MoreLaws.{all-out}
 
 abbrev silence : TakenOff
@@ -33,7 +32,7 @@ abbrev got : ℕ → ℕ → TakenOff
 got n p = record { refusal = 0; found = true; length = n; place = p }
 
 -- what is not refused makes whole octets
-pub whole-octets : (n r : ℕ) (s : Bool) → r ≡ betweenRefusal s n → r ≡ 0 → n % 8 ≡ 0
+whole-octets : (n r : ℕ) (s : Bool) → r ≡ betweenRefusal s n → r ≡ 0 → n % 8 ≡ 0
 unfolding betweenRefusal
 whole-octets n r s er z = eqb-true (n % 8) 0 (not-false _ (refuse-zero (not (eqb (n % 8) 0)) 21 (orElse-zero _ _ (sym er ∙ z) .0)))
 
@@ -101,12 +100,23 @@ module _ (f out : List ℕ) (count place b e : ℕ) (h : (past (length f) count 
       let n : next (take count (bits f)) place ≡ some (closed e (drop e (take count (bits f))) (slice b e (take count (bits f)))) = rw t at (lies .reads) in
       n ∙ rw (take-take e count (bits f) (lies .within))
 
-  module _ (q : e ≡ count → ⊥) (n r : ℕ) (s : Bool) (en : n ≡ length (unstuff 5 (slice b e (bits f)))) (eo : s ≡ eqb (value (take 1 (drop e (bits f)))) 1) (er : r ≡ betweenRefusal s n) where
+  module _ (q : e ≡ count → ⊥) where
     before : e < count
     before = omega (arith, lies .within)
 
+    pub stands-within : e + 1 ≤ 8 * length f
+    stands-within = omega (arith, before, bounds (length f) count place h)
+
+    -- what reading the bits between asks
+    pub between : count < 18446744073709551616 → (b ≤ e) × (e ≤ 8 * length f) × (e < 18446744073709551615)
+    between fits = (lies .ordered, omega (arith, stands-within), omega (arith, before))
+
+    pub stands-calm : Calm 5 (slice b e (bits f))
+    stands-calm = rw (take-take e count (bits f) (lies .within)) at (lies .calm before)
+
+  module _ (q : e ≡ count → ⊥) (n r : ℕ) (s : Bool) (en : n ≡ length (unstuff 5 (slice b e (bits f)))) (eo : s ≡ eqb (value (take 1 (drop e (bits f)))) 1) (er : r ≡ betweenRefusal s n) where
     es : s ≡ sevenOnes (drop e (take count (bits f)))
-    es = eo ∙ aborted-is f count e before (lies .stands before)
+    es = eo ∙ aborted-is f count e (before q) (lies .stands (before q))
 
     refusal-is : r ≡ closed e there sent .refusal
     unfolding there sent
@@ -132,6 +142,13 @@ module _ (f out : List ℕ) (count place b e : ℕ) (h : (past (length f) count 
         let t = heard-short out (closed e there sent) (sym refusal-is ∙ z) (rw (size-is z) l) in
         (sym (t .0) ∙ k .0, sym (t .1) ∙ k .1)
 
+    whole : r ≡ 0 → length (unstuff 5 (slice b e (bits f))) % 8 ≡ 0
+    whole z = sym (ap (λ (x : ℕ). x % 8) en) ∙ whole-octets n r s er z
+
+    -- it makes as many octets as there is room for
+    pub room : r ≡ 0 → n / 8 ≤ length out → 8 * 0 + 0 + length (unstuff 5 (slice b e (bits f))) ≤ 8 * length out
+    room z l = omega (arith, en, whole z)
+
     pub next-done : (o : List ℕ) (at held m : ℕ) → ((i : ℕ) → getD o i 0 < 256) → r ≡ 0 → n / 8 ≤ length out
         → More out o 0 0 0 (unstuff 5 (slice b e (bits f))) at held m
         → (got (n / 8) e ≡ nextAnswer f count place (length out)) × (o ≡ nextOut f count place out)
@@ -139,7 +156,7 @@ module _ (f out : List ℕ) (count place b e : ℕ) (h : (past (length f) count 
         let k = asks (some (closed e there sent)) (some-is q) in
         let t = heard-done out (closed e there sent) (sym refusal-is ∙ z) (rw (size-is z) l) in
         let eo : o ≡ octetsOf (n / 8) (unstuff 5 (slice b e (bits f))) ++ drop (n / 8) out =
-        rw en (all-out out o at held m (unstuff 5 (slice b e (bits f))) octet more (sym (ap (λ (x : ℕ). x % 8) en) ∙ whole-octets n r s er z)) in (
+        rw en (all-out out o at held m (unstuff 5 (slice b e (bits f))) octet more (whole z)) in (
           ap₂ got (sym (size-is z)) (sym (closed-place e there sent)) ∙ sym (t .0) ∙ k .0,
           eo ∙ ap₂ (λ (x : List ℕ) (m : ℕ). x ++ drop m out) (frame-is z) (sym (size-is z)) ∙ sym (t .1) ∙ k .1,
         )

@@ -8,7 +8,7 @@ ghost use Rattle.bits.specs.Bits.{bits, lowest, value};
 ghost use Rattle.bits.specs.Places.{until, marks};
 ghost use Rattle.zeros.specs.Parts.{More};
 ghost use Rattle.line.specs.Line.{flag, betweenRefusal};
-ghost use Rattle.line.specs.Parts.{sought, sentAs, opened, Lies};
+ghost use Rattle.line.specs.Parts.{sought, sentAs, opened};
 ghost use Rattle.line.specs.Calls.{past, over, addRefusal, addAnswer, addBits, addLine, nextAnswer, nextOut};
 use refusals::or_else;
 use zeros::Held;
@@ -74,35 +74,6 @@ fn between_refusal(aborted: bool, n: usize) -> u8
     or_else(refusals::refuse(n % 8 != 0, 22), size)
 }
 
-fn one_at(line: &[u8], i: usize) -> bool
-    requires { ⌜ i < 8 * length (now line) ⌝ }
-    ensures { λ r. ⌜ r ≡ eqb (value (take 1 (drop i (bits (now (line .entry)))))) 1 ⌝ }
-{
-    bits::window(line, i, 1) == 1
-}
-
-// Where a reading lies: from behind the opening flag to the closing flag or the seven ones, or to the count where there is none.
-struct Span {
-    begin: usize,
-    end: usize,
-}
-
-fn find(line: &[u8], count: usize, place: usize) -> Span
-    requires { ⌜ (place ≤ count) × (count ≤ 8 * length (now line)) ⌝ }
-    ensures { λ r. ⌜ Lies (take count (bits (now (line .entry)))) count place (r .begin) (r .end) ⌝ }
-{
-    let open = seek(line, count, place, true);
-    if open == count {
-        return Span {
-            begin: count,
-            end: count,
-        };
-    }
-    let begin = open + 8;
-    let end = seek(line, count, begin, false);
-    Span { begin, end }
-}
-
 // Copies out the next frame from a place on. Refused, or with no frame, out is as it came; so is what is left of it.
 pub fn next(line: &[u8], count: usize, place: usize, out: &mut [u8]) -> TakenOff
     ensures answer { λ r. ⌜ r ≡ nextAnswer (now (line .entry)) count place (length (now (out .entry))) ⌝ }
@@ -116,9 +87,9 @@ pub fn next(line: &[u8], count: usize, place: usize, out: &mut [u8]) -> TakenOff
             place: 0,
         };
     }
-    let span = find(line, count, place);
-    let begin = span.begin;
-    let end = span.end;
+    let open = seek(line, count, place, true);
+    let begin = open + octets::lesser(8, count - open);
+    let end = seek(line, count, begin, false);
     if end == count {
         return TakenOff {
             refusal: 0,
@@ -128,7 +99,7 @@ pub fn next(line: &[u8], count: usize, place: usize, out: &mut [u8]) -> TakenOff
         };
     }
     let n = zeros::plain_length(line, begin, end);
-    let refusal = between_refusal(one_at(line, end), n);
+    let refusal = between_refusal(bits::window(line, end, 1) == 1, n);
     if refusal != 0 {
         return TakenOff {
             refusal,
@@ -185,24 +156,18 @@ fn open_line(line: &mut [u8], count: usize) -> Held
     }
 }
 
-// The n bits that are still held, into the lowest of the octet at `at`; its higher bits are as they came.
-fn finish(line: &mut [u8], at: usize, held: u64, n: usize)
-    requires { ⌜ (n < 8) × (held < 2 ^ n) × (8 * at + n ≤ 8 * length (now line)) ⌝ }
-    ensures { λ _. ⌜ bits (now (line .exit)) ≡ bits (take at (now (line .entry))) ++ lowest n held ++ drop (8 * at + n) (bits (now (line .entry))) ⌝ }
+// The closing flag behind the n bits that are held for the octet at `at`, and the count after. The higher bits of the flag's last
+// octet are as they came.
+fn close_line(line: &mut [u8], at: usize, held: u64, n: usize) -> usize
+    requires { ⌜ (n < 8) × (held < 2 ^ n) × (8 * at + n + 8 ≤ 8 * length (now line)) × (8 * at + n + 8 < 18446744073709551616) ⌝ }
+    ensures answer { λ r. ⌜ r ≡ 8 * at + n + 8 ⌝ }
+    ensures buffer { λ _. ⌜ bits (now (line .exit)) ≡ bits (take at (now (line .entry))) ++ lowest n held ++ flag ++ drop (8 * at + n + 8) (bits (now (line .entry))) ⌝ }
 {
-    if n != 0 {
-        let higher = line[at] >> n;
-        line[at] = (higher << n) + (held as u8);
-    }
-}
-
-// The closing flag behind the n bits that are held for the octet at `at`, and the end of the line.
-fn close_line(line: &mut [u8], at: usize, held: u64, n: usize)
-    requires { ⌜ (n < 8) × (held < 2 ^ n) × (8 * at + n + 8 ≤ 8 * length (now line)) ⌝ }
-    ensures { λ _. ⌜ bits (now (line .exit)) ≡ bits (take at (now (line .entry))) ++ lowest n held ++ flag ++ drop (8 * at + n + 8) (bits (now (line .entry))) ⌝ }
-{
-    let rest = bits::pour(&mut *line, at, held + (126 << n), 1);
-    finish(line, at + 1, rest, n);
+    let end = 8 * at + n + 8;
+    let left = (8 - n) % 8;
+    let higher = bits::window(line, end, left);
+    bits::pour(line, at, held + ((126 + (higher << 8)) << n), (n + 15) / 8);
+    end
 }
 
 // Whether there is no room for what a frame puts on the line, from `begin` on. Where there is room for the most that it may become,
@@ -252,10 +217,7 @@ fn write(line: &mut [u8], count: usize, frame: &[u8]) -> usize
         first.bits,
         first.n,
     );
-    let at = last.at;
-    let n = last.n;
-    close_line(line, at, last.bits, n);
-    8 * at + n + 8
+    close_line(line, last.at, last.bits, last.n)
 }
 
 // Adds a frame to the line of the first count bits. Refused, no bit is touched; taken, every bit but those added is as it came.

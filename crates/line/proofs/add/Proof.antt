@@ -1,5 +1,5 @@
 use native.Mathlib.Omega.{arith}
-use borrow.Author.Needs.{needs}
+use mathlib.Core.Path.{refl, sym, _∙_}
 use Rattle.line.proofs.AddLaws.{add-refused, add-taken}
 use Rattle.line.proofs.add.Statement.{statement}
 use Rattle.line.proofs.add.Tie as tie
@@ -8,7 +8,7 @@ add-refusal-requires : tie.Need-add-refusal-requires
 add-refusal-requires c κs = tt
 
 same-length : tie.Need-same-length
-same-length c = search needs
+same-length c = refl
 
 returns : tie.Need-returns
 returns c =
@@ -17,10 +17,10 @@ returns c =
     add-refused (a .line .now) (a .frame .now) (a .count) (r .result) (λ i. omega (arith, c .before .before .before .before .slice-known .given i)) (r .ensures) (c .if1 .taken)
 
 write-requires : tie.Need-write-requires
-write-requires c κs = search needs
+write-requires c κs = sym (c .before .before .add-refusal .ensures) ∙ c .before .if1 .left
 
 same-length-2 : tie.Need-same-length-2
-same-length-2 c = search needs
+same-length-2 c = c .before .before .write .kept .0
 
 returns-2 : tie.Need-returns-2
 returns-2 c =

@@ -1,12 +1,11 @@
 use Prim.Native.Nat.{_+_}
 use native.Mathlib.Omega.{arith}
 use Rattle.line.proofs.RoomLaws.{over-much, over-not}
-use borrow.Author.Needs.{needs}
 use Rattle.line.proofs.lacks.Statement.{statement}
 use Rattle.line.proofs.lacks.Tie as tie
 
 sub-if1 : tie.Need-sub-if1
-sub-if1 c = search needs
+sub-if1 c = omega arith
 
 returns : tie.Need-returns
 returns c = let a = c .before .args in over-much (a .n) (a .at + a .more) (omega arith)

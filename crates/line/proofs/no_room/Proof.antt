@@ -1,7 +1,6 @@
 use Prim.Native.Nat.{ℕ, _+_}
 use mathlib.Core.Path.{_≡_, sym, ap, _∙_}
 use native.Mathlib.Omega.{arith}
-use borrow.Author.Needs.{needs}
 use borrow.Author.Tests.{not-true}
 use lib.ListN.{length}
 use Rattle.zeros.specs.Zeros.{stuff}
@@ -12,13 +11,13 @@ use Rattle.line.proofs.no_room.Statement.{statement}
 use Rattle.line.proofs.no_room.Tie as tie
 
 mul-end : tie.Need-mul-end
-mul-end c = search needs
+mul-end c = omega arith
 
 add-lacks : tie.Need-add-lacks
-add-lacks c = search needs
+add-lacks c = omega arith
 
 add-lacks-2 : tie.Need-add-lacks-2
-add-lacks-2 c = search needs
+add-lacks-2 c = omega arith
 
 lacks-requires : tie.Need-lacks-requires
 lacks-requires c κs = tt

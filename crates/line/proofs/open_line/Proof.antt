@@ -1,14 +1,15 @@
 use native.Mathlib.Omega.{arith}
-use borrow.Author.Needs.{needs}
+use mathlib.Core.Path.{refl}
+use lib.ListN.{length-set}
 use Rattle.line.proofs.MoreLaws.{open-empty, open-more}
 use Rattle.line.proofs.open_line.Statement.{statement}
 use Rattle.line.proofs.open_line.Tie as tie
 
 slice-write-line : tie.Need-slice-write-line
-slice-write-line c = search needs
+slice-write-line c = omega arith
 
 same-length : tie.Need-same-length
-same-length c = search needs
+same-length c = length-set (c .before .before .args .line .now) 0 126
 
 returns : tie.Need-returns
 returns c =
@@ -16,13 +17,13 @@ returns c =
     open-empty (b .args .line .now) (b .args .count) (c .if1 .taken) (b .pre .1)
 
 sub-window : tie.Need-sub-window
-sub-window c = search needs
+sub-window c = omega arith
 
 window-requires : tie.Need-window-requires
 window-requires c κs = (omega arith, omega arith)
 
 same-length-2 : tie.Need-same-length-2
-same-length-2 c = search needs
+same-length-2 c = refl
 
 returns-2 : tie.Need-returns-2
 returns-2 c =

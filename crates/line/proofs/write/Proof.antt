@@ -1,8 +1,7 @@
-use Prim.Native.Nat.{_+_, _*_, _≤_}
+use Prim.Native.Nat.{_+_, _*_, _≤_, _<_}
 use mathlib.Core.Bool.{cond}
-use mathlib.Core.Path.{_≡_, ap}
+use mathlib.Core.Path.{_≡_, ap, _∙_}
 use native.Mathlib.Omega.{arith}
-use borrow.Author.Needs.{needs}
 use lib.Dec.{eqb}
 use lib.ListN.{length}
 use lib.Seq.{slice}
@@ -41,7 +40,7 @@ carry-requires c κs =
 
 -- where the closing flag begins, and that it has room there
 closing : (c : tie.After-carry) → let a = c .before .before .before .before .before .before .before .before .args in let k = c .carry .result in
-    (8 * k .at + k .n + 8 ≤ 8 * length (c .carry .last .1 .1 .1 .1 .0)) × (8 * k .at + k .n + 8 ≤ 18446744073709551615)
+    (8 * k .at + k .n + 8 ≤ 8 * length (c .carry .last .1 .1 .1 .1 .0)) × (8 * k .at + k .n + 8 < 18446744073709551616)
 closing c =
     let b = c .before .before .before .before .before .before .before .before in
     let a = b .args in
@@ -56,19 +55,13 @@ closing c =
 close-line-requires : tie.Need-close-line-requires
 close-line-requires c κs =
     let y = c .before .before .before in
-    (y .carry .ensures .short, y .carry .ensures .fits, closing y .0)
-
-mul-result : tie.Need-mul-result
-mul-result c = omega (arith, closing (c .before .before .before .before .before .before) .1)
-
-add-result : tie.Need-add-result
-add-result c = omega (arith, closing (c .before .before .before .before .before .before) .1)
-
-add-result-2 : tie.Need-add-result-2
-add-result-2 c = omega (arith, closing (c .before .before .before .before .before .before) .1)
+    let k = closing y in
+    (y .carry .ensures .short, y .carry .ensures .fits, k .0, k .1)
 
 same-length : tie.Need-same-length
-same-length c = search needs
+same-length c =
+    let y = c .before .before .before .before .before .before in
+    c .before .before .close-line .kept .0 ∙ y .carry .ensures .long ∙ y .before .before .before .before .open-line .ensures .long
 
 returns : tie.Need-returns
 returns c =
@@ -77,8 +70,11 @@ returns c =
     let a = b .args in
     let o = y .before .before .before .before .open-line in
     let k = y .carry in
+    let r = c .before .before .close-line .ensures in
+    let w =
     written (a .line .now) (o .last .0) (a .frame .now) (a .count) (b .pre) (o .result .at) (o .result .bits) (o .result .n) (o .ensures)
-    (k .last .1 .1 .1 .1 .0) (k .result .at) (k .result .bits) (k .result .n) (k .ensures) _ (c .before .before .close-line .ensures)
+    (k .last .1 .1 .1 .1 .0) (k .result .at) (k .result .bits) (k .result .n) (k .ensures) _ (r .1) in
+    (r .0 ∙ w .0, w .1)
 
 pub write-spec : {M : Type 1} → statement M
 write-spec =
@@ -88,8 +84,5 @@ write-spec =
     mul-end
     carry-requires
     close-line-requires
-    mul-result
-    add-result
-    add-result-2
     same-length
     returns)
