@@ -1,14 +1,16 @@
 -- `line::next` meets its contract, one law for each way out.
-use Prim.Native.Nat.{ℕ, _+_, _≤_, _<_}
+use Prim.Native.Nat.{ℕ, _+_, _*_, _≤_, _<_}
 use mathlib.Core.Bool.{Bool, false, _||_}
 use mathlib.Core.Path.{_≡_, sym, ap, _∙_}
 use native.Mathlib.Omega.{arith}
 use lib.Dec.{ltb, eqb, lit<, lit≤}
 use lib.ListN.{length, take}
+use lib.Seq.{slice}
 use Rattle.bits.specs.Bits.{bits}
+use Rattle.zeros.specs.Parts.{Calm}
 use Rattle.line.specs.Calls.{past}
 use Rattle.line.proofs.FindLaws.{Lies, open-le, begin-le, lies}
-use Rattle.line.proofs.NextLaws.{bounds, between, stands-within, stands-calm, room, next-14, next-none, next-refused, next-short, next-done}
+use Rattle.line.proofs.NextLaws.{bounds, between, stands-within, next-14, next-none, Judged, judged}
 use Rattle.line.proofs.next.Statement.{statement}
 use Rattle.line.proofs.next.Tie as tie
 
@@ -74,15 +76,18 @@ returns-2 c =
     let a = e .before .before .before .before .before .before .before .args in
     next-none (a .line .now) (a .out .now) (a .count) (a .place) _ (e .seek2 .result) (within (e .before .before .before)) (found e) (c .if2 .taken)
 
-fits : (c : tie.Else2) → c .before .before .before .before .before .before .before .before .args .count < 18446744073709551616
-fits c = omega arith
-
-plain-length-requires : tie.Need-plain-length-requires
-plain-length-requires c κs =
+-- what reading the bits between asks
+stretch : (c : tie.Else2) → let e = c .before in let l = e .before .before .before .before .before .before .before .args .line .now in
+    let b = e .before .before .seek .result + e .before .lesser .result in
+    (b ≤ e .seek2 .result) × (e .seek2 .result ≤ 8 * length l) × (e .seek2 .result < 18446744073709551615)
+    × Calm 5 (slice b (e .seek2 .result) (bits l))
+stretch c =
     let e = c .before in
     let a = e .before .before .before .before .before .before .before .args in
-    let b = between (a .line .now) (a .out .now) (a .count) (a .place) _ (e .seek2 .result) (within (e .before .before .before)) (found e) (c .if2 .left) (fits c) in
-    (b .0, b .1, stands-calm (a .line .now) (a .out .now) (a .count) (a .place) _ (e .seek2 .result) (within (e .before .before .before)) (found e) (c .if2 .left))
+    between (a .line .now) (a .out .now) (a .count) (a .place) _ (e .seek2 .result) (within (e .before .before .before)) (found e) (c .if2 .left) (omega arith)
+
+plain-length-requires : tie.Need-plain-length-requires
+plain-length-requires c κs = let b = stretch c in (b .0, b .1, b .3)
 
 window-requires : tie.Need-window-requires
 window-requires c κs =
@@ -93,46 +98,28 @@ window-requires c κs =
 between-refusal-requires : tie.Need-between-refusal-requires
 between-refusal-requires c κs = tt
 
-returns-3 : tie.Need-returns-3
-returns-3 c =
-    let r = c .before in
-    let w = r .before in
+judge : (c : tie.After-between-refusal) → let n = c .before .before in let e = n .before .before in let a = e .before .before .before .before .before .before .before .args in
+    Judged (a .line .now) (a .out .now) (a .count) (a .place) (e .before .before .seek .result + e .before .lesser .result) (e .seek2 .result)
+    (n .plain-length .result) (c .between-refusal .result)
+judge c =
+    let w = c .before in
     let n = w .before in
     let e = n .before .before in
     let a = e .before .before .before .before .before .before .before .args in
-    next-refused (a .line .now) (a .out .now) (a .count) (a .place) _ (e .seek2 .result) (within (e .before .before .before)) (found e) (n .before .if2 .left)
-    (n .plain-length .result) (r .between-refusal .result) (eqb (w .window .result) 1) (n .plain-length .ensures) (ap (λ (x : ℕ). eqb x 1) (w .window .ensures)) (r .between-refusal .ensures)
-    (c .if3 .taken)
+    judged (a .line .now) (a .out .now) (a .count) (a .place) _ (e .seek2 .result) (within (e .before .before .before)) (found e) (n .before .if2 .left)
+    (n .plain-length .result) (c .between-refusal .result) (eqb (w .window .result) 1) (n .plain-length .ensures) (ap (λ (x : ℕ). eqb x 1) (w .window .ensures)) (c .between-refusal .ensures)
+
+returns-3 : tie.Need-returns-3
+returns-3 c = judge (c .before) .refused (c .if3 .taken)
 
 returns-4 : tie.Need-returns-4
-returns-4 c =
-    let r = c .before .before in
-    let w = r .before in
-    let n = w .before in
-    let e = n .before .before in
-    let a = e .before .before .before .before .before .before .before .args in
-    next-short (a .line .now) (a .out .now) (a .count) (a .place) _ (e .seek2 .result) (within (e .before .before .before)) (found e) (n .before .if2 .left)
-    (n .plain-length .result) (r .between-refusal .result) (eqb (w .window .result) 1) (n .plain-length .ensures) (ap (λ (x : ℕ). eqb x 1) (w .window .ensures)) (r .between-refusal .ensures)
-    (c .before .if3 .left) (c .if4 .taken)
+returns-4 c = judge (c .before .before) .short (c .before .if3 .left) (c .if4 .taken)
 
 carry-requires : tie.Need-carry-requires
 carry-requires c κs =
-    let s = c .before .before in
-    let r = s .before in
-    let w = r .before in
-    let n = w .before in
-    let e = n .before .before in
-    let a = e .before .before .before .before .before .before .before .args in
-    let b = between (a .line .now) (a .out .now) (a .count) (a .place) _ (e .seek2 .result) (within (e .before .before .before)) (found e) (n .before .if2 .left) (fits (n .before)) in (
-      b .0,
-      b .1,
-      b .2,
-      lit< tt,
-      lit< tt,
-      room (a .line .now) (a .out .now) (a .count) (a .place) _ (e .seek2 .result) (within (e .before .before .before)) (found e) (n .before .if2 .left)
-          (n .plain-length .result) (r .between-refusal .result) (eqb (w .window .result) 1) (n .plain-length .ensures) (ap (λ (x : ℕ). eqb x 1) (w .window .ensures)) (r .between-refusal .ensures)
-          (s .if3 .left) (c .before .if4 .left),
-    )
+    let r = c .before .before .before in
+    let b = stretch (r .before .before .before) in
+    (b .0, b .1, b .2, lit< tt, lit< tt, judge r .room (c .before .before .if3 .left) (c .before .if4 .left))
 
 same-length : tie.Need-same-length
 same-length c = c .before .before .carry .ensures .long
@@ -141,15 +128,9 @@ returns-5 : tie.Need-returns-5
 returns-5 c =
     let y = c .before .before in
     let s = y .before .before .before in
-    let r = s .before in
-    let w = r .before in
-    let n = w .before in
-    let e = n .before .before in
-    let a = e .before .before .before .before .before .before .before .args in
     let k = y .carry in
-    next-done (a .line .now) (a .out .now) (a .count) (a .place) _ (e .seek2 .result) (within (e .before .before .before)) (found e) (n .before .if2 .left)
-    (n .plain-length .result) (r .between-refusal .result) (eqb (w .window .result) 1) (n .plain-length .ensures) (ap (λ (x : ℕ). eqb x 1) (w .window .ensures)) (r .between-refusal .ensures)
-    (k .last .1 .1 .1 .1 .0) (k .result .at) (k .result .bits) (k .result .n) (λ i. omega (arith, c .slice-known2 .given i)) (s .if3 .left) (y .before .before .if4 .left) (k .ensures)
+    judge (s .before) .done (s .if3 .left) (y .before .before .if4 .left) (k .last .1 .1 .1 .1 .0) (k .result .at) (k .result .bits) (k .result .n)
+    (λ i. omega (arith, c .slice-known2 .given i)) (k .ensures)
 
 pub next-spec : {M : Type 1} → statement M
 next-spec =
