@@ -11,7 +11,8 @@ use lib.Count.{trailingZeros}
 use lib.ListN.{length, drop, replicate}
 use lib.Seq.{drop-nil, drop-drop}
 use Rattle.bits.specs.Bits.{lowest, value}
-use Rattle.bits.specs.Places.{begins, until, marks}
+use Rattle.bits.specs.Marks.{marks}
+use Rattle.bits.specs.Places.{begins, until}
 use Rattle.bits.proofs.BitLaws.{half, odd, value-drop, value-lowest, length-lowest}
 
 -- m has a one for each place where the test holds

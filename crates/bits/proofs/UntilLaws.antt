@@ -11,7 +11,8 @@ use lib.Count.{trailingZeros, trailing-of-zero}
 use lib.ListN.{length, take, drop, drop-of-length-le}
 use lib.Seq.{drop-length}
 use Rattle.bits.specs.Bits.{value}
-use Rattle.bits.specs.Places.{begins, until, marks}
+use Rattle.bits.specs.Marks.{marks}
+use Rattle.bits.specs.Places.{begins, until}
 use Rattle.bits.proofs.MarkLaws.{trailing-step}
 
 -- ---- what bits begin with

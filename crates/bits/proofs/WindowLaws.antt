@@ -12,17 +12,16 @@ use Rattle.bits.proofs.BitLaws.{length-bits, front-lt, front-is, drop-t
 abbrev pub rest : List ℕ → ℕ → ℕ → List Bool
 rest s end i = drop i (take end (bits s))
 
-module _ (s : List ℕ) (end : ℕ) (within : end ≤ 8 * length s) where
-  pub length-rest : (i : ℕ) → length (rest s end i) ≡ end - i
-  length-rest i = length-drop i (take end (bits s)) ∙ omega (arith, length-take end (bits s), length-bits s)
+pub length-rest : (s : List ℕ) (end : ℕ) → end ≤ 8 * length s → (i : ℕ) → length (rest s end i) ≡ end - i
+length-rest s end within i = length-drop i (take end (bits s)) ∙ omega (arith, length-take end (bits s), length-bits s)
 
-  -- n of them, at most k, and w their value
-  module _ (k i n w : ℕ) (en : n ≡ min k (end - i)) (ew : w ≡ value (take n (drop i (bits s)))) where
-    window-is : take n (drop i (bits s)) ≡ take k (rest s end i)
-    window-is = rw (en, drop-take i end (bits s), take-take-min k (end - i) (drop i (bits s)))
+-- n of them, at most k, and w their value
+module _ (s : List ℕ) (end k i n w : ℕ) (en : n ≡ min k (end - i)) (ew : w ≡ value (take n (drop i (bits s)))) where
+  pub window-is : take n (drop i (bits s)) ≡ take k (rest s end i)
+  window-is = rw (en, drop-take i end (bits s), take-take-min k (end - i) (drop i (bits s)))
 
-    pub window-fits : w < 2 ^ n
-    window-fits = rw ew (front-lt n (drop i (bits s)))
+  pub window-fits : w < 2 ^ n
+  window-fits = rw ew (front-lt n (drop i (bits s)))
 
-    pub seen : lowest n w ≡ take k (rest s end i)
-    seen = ap (lowest n) ew ∙ front-is n (drop i (bits s)) (omega (arith, length-drop i (bits s), length-bits s)) ∙ window-is
+  pub seen : end ≤ 8 * length s → lowest n w ≡ take k (rest s end i)
+  seen within = ap (lowest n) ew ∙ front-is n (drop i (bits s)) (omega (arith, length-drop i (bits s), length-bits s)) ∙ window-is

@@ -13,8 +13,3 @@ begins (a ∷ p) (b ∷ bs) = Bool·beq a b && begins p bs
 unfoldable pub until : (List Bool → Bool) → List Bool → ℕ
 until test [] = 0
 until test (b ∷ bs) = cond (test (b ∷ bs)) 0 (suc (until test bs))
-
--- a one for each place where the test holds of what is left; no call's promise cites it
-unfoldable pub marks : (List Bool → Bool) → List Bool → List Bool
-marks test [] = []
-marks test (b ∷ bs) = test (b ∷ bs) ∷ marks test bs

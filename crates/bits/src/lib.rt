@@ -11,7 +11,7 @@ fn wide(x: u8) -> u64
     x as u64
 }
 
-// Four octets from j on, and eight, as one number, the first the lowest.
+// Four octets from j on, and eight, as one number, the first the lowest. Here and below the callers keep within the slice.
 fn four(s: &[u8], j: usize) -> u64
     requires { ⌜ j + 4 ≤ length (now s) ⌝ }
     ensures { λ r. ⌜ (r < 4294967296) × (r ≡ value (bits (take 4 (drop j (now (s .entry)))))) ⌝ }
@@ -50,7 +50,7 @@ fn from(s: &[u8], j: usize) -> u64
     eight(s, j)
 }
 
-// The n bits from i on as a number, the first the lowest. The callers keep within the slice.
+// The n bits from i on as a number, the first the lowest.
 pub fn window(s: &[u8], i: usize, n: usize) -> u64
     requires { ⌜ (n ≤ 56) × (i + n ≤ 8 * length (now s)) ⌝ }
     ensures { λ r. ⌜ r ≡ value (take n (drop i (bits (now (s .entry))))) ⌝ }

@@ -6,7 +6,8 @@ use mathlib.Core.List.{List, [], _∷_}
 use lib.Bits.{bitAnd, bitOr, bitXor}
 use lib.ListN.{drop}
 use Rattle.bits.specs.Bits.{lowest, value}
-use Rattle.bits.specs.Places.{begins, marks}
+use Rattle.bits.specs.Marks.{marks}
+use Rattle.bits.specs.Places.{begins}
 use Rattle.bits.proofs.MarkLaws.{Marked, both, either, unlike, same, later, join, ones, two, four, one-marked, two-marked, four-marked, zero-marked}
 use Rattle.line.specs.Line.{flagHere, opens, ends}
 

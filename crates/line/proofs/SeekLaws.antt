@@ -11,7 +11,8 @@ use lib.Count.{trailingZeros}
 use lib.ListN.{length, take, drop, length-take, length-drop}
 use lib.Seq.{drop-drop}
 use Rattle.bits.specs.Bits.{bits, lowest, value}
-use Rattle.bits.specs.Places.{until, marks}
+use Rattle.bits.specs.Marks.{marks}
+use Rattle.bits.specs.Places.{until}
 use Rattle.bits.proofs.BitLaws.{drop-take}
 use Rattle.bits.proofs.MarkLaws.{ones}
 use Rattle.bits.proofs.WindowLaws.{rest, length-rest, seen}
@@ -35,7 +36,7 @@ module _ (s : List ℕ) (count : ℕ) (within : count ≤ 8 * length s) (i n w :
   told : until (sought o) (rest s count i)
       ≡ cond (ltb (trailingZeros 64 m) 40) (trailingZeros 64 m)
       (length (take 40 (rest s count i)) + until (sought o) (drop (length (take 40 (rest s count i))) (rest s count i)))
-  told = rw (em, seen s count within 56 i n w en ew) (until-window (sought o) 16 (sees o) 40 56 64 (rest s count i) (omega arith) (omega arith))
+  told = rw (em, seen s count 56 i n w en ew within) (until-window (sought o) 16 (sees o) 40 56 64 (rest s count i) (omega arith) (omega arith))
 
   pub found : i ≤ count → trailingZeros 64 m < 40 → (until (sought o) (rest s count i) ≡ trailingZeros 64 m) × (i + trailingZeros 64 m ≤ count)
   found h below =

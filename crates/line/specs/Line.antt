@@ -58,7 +58,7 @@ reading place bs =
     let n : ℕ = until ends bs in
     cond (ends (drop n bs)) (some (closed (place + n) (drop n bs) (take n bs))) none
 
--- the first place, from p on, behind a flag that opens
+-- the first place, from p on, behind a flag that opens; past the line's end where none does
 unfoldable pub begin : List Bool → ℕ → ℕ
 begin line p = p + until opens (drop p line) + 8
 

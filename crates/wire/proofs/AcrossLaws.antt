@@ -6,15 +6,14 @@ use lib.ListN.{length, length-map}
 use Rattle.endpoint.specs.Read.{readAnswer}
 use Rattle.chain.specs.Chain.{Origin, refusedAt, sent, AllReady, levels}
 use Rattle.chain.proofs.ChainLaws.{heard, no-node, read-back as samples-back}
-use Rattle.wire.specs.Reads.{Each}
-use Rattle.wire.specs.Wire.{Frame, Frames, Room, Call, said, whole}
-use Rattle.wire.specs.Across.{crossed, hears, told}
+use Rattle.wire.specs.Wire.{Each, Frame, Frames, Room, Call, said, whole}
+use Rattle.wire.specs.Across.{crossed, hears, given}
 use Rattle.wire.proofs.EachLaws.{each-map, map-each}
 use Rattle.wire.proofs.OctetLaws.{sent-frame}
 use Rattle.wire.proofs.WireLaws.{read-back}
 
 -- with no node on the way
-heard-at : (o : Origin) → refusedAt o ≡ 0 → readAnswer (sent o) ≡ told o
+heard-at : (o : Origin) → refusedAt o ≡ 0 → readAnswer (sent o) ≡ given o
 unfolding AllReady
 heard-at o z = sym (ap readAnswer (no-node (sent o))) ∙ heard o z [] tt
 
@@ -38,8 +37,8 @@ module _ (os : List Origin) (buffer out : List ℕ) (n : ℕ) (room : Room buffe
       ∙ map-each P (λ o. g (sent o)) k e os p
 
   -- what any list of calls that are not refused sent is heard, each in its turn and nothing else
-  pub across : Each (λ o. refusedAt o ≡ 0) os → map hears (crossed os n buffer out) ≡ map told os
-  across = by-octets readAnswer told (λ o. refusedAt o ≡ 0) (λ o z. z) heard-at
+  pub across : Each (λ o. refusedAt o ≡ 0) os → map hears (crossed os n buffer out) ≡ map given os
+  across = by-octets readAnswer given (λ o. refusedAt o ≡ 0) (λ o z. z) heard-at
 
   -- at level 0 the samples heard are the samples
   pub across-whole : Each (λ o. (refusedAt o ≡ 0) × (o .level ≡ 0)) os

@@ -20,8 +20,7 @@ use Rattle.origin.specs.Send.{madeHead, made, sendWritten}
 use Rattle.origin.proofs.SendLaws.{written-field, sent-length}
 use Rattle.chain.specs.Chain.{Origin, refusedAt, sent}
 use Rattle.chain.proofs.ChainLaws.{taken, sent-is}
-use Rattle.wire.specs.Reads.{Each}
-use Rattle.wire.specs.Wire.{Frame}
+use Rattle.wire.specs.Wire.{Each, Frame}
 use Rattle.wire.proofs.EachLaws.{each-append, each-at}
 
 abbrev Octets : List ℕ → Type 0

@@ -17,8 +17,8 @@ use Rattle.bits.proofs.BitLaws.{length-bits}
 use Rattle.bits.specs.Places.{begins, until}
 use Rattle.zeros.specs.Zeros.{stuff}
 use Rattle.line.specs.Line.{flag, put, next, begin, reading, Reading}
-use Rattle.wire.specs.Reads.{putAll, reads}
-use Rattle.wire.specs.Wire.{Frame, Frames, whole}
+use Rattle.wire.proofs.Readings.{reads}
+use Rattle.wire.specs.Wire.{putAll, Frame, Frames, whole}
 use Rattle.wire.proofs.LineLaws.{stuff-long, stuff-calm, next-calm, closed-frame, next-end}
 
 pub reads-none : (n : ℕ) (line : List Bool) (p : ℕ) → next line p ≡ none → reads n line p ≡ []

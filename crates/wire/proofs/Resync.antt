@@ -13,7 +13,7 @@ use lib.Seq.{drop-append-add, drop-append-seam, drop-append-le}
 use Rattle.octets.proofs.BoolLaws.{and-true}
 use Rattle.bits.specs.Places.{begins, until}
 use Rattle.line.specs.Line.{flag, flagHere, opens, ends, next, begin, reading, closed, Reading}
-use Rattle.wire.specs.Reads.{reads, later, Resumes}
+use Rattle.wire.proofs.Readings.{reads, later, Resumes}
 use Rattle.wire.proofs.LineLaws.{until-here}
 use Rattle.wire.proofs.ReadBack.{reads-none, reads-some}
 

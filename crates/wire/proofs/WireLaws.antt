@@ -17,10 +17,10 @@ use Rattle.bits.specs.Bits.{bits, octetsOf}
 use Rattle.bits.proofs.BitLaws.{length-bits, length-octets, bits-of-octets}
 use Rattle.bits.specs.Places.{begins, until}
 use Rattle.line.specs.Line.{Reading, flagHere, ends, put, next, begin, reading, closed, betweenRefusal}
-use Rattle.line.specs.Calls.{past, over, news, addRefusal, addAnswer, addBits, addLine, told, heardOut, nextRefusal14, nextAnswer, nextOut}
+use Rattle.line.specs.Calls.{over, news, addRefusal, addAnswer, addBits, addLine, told, heardOut, nextRefusal14, nextAnswer, nextOut}
 use Rattle.line.proofs.RoomLaws.{over-less}
-use Rattle.wire.specs.Reads.{Each, putAll, reads, later}
-use Rattle.wire.specs.Wire.{Frames, bufferAfter, countAfter, AllAdded, Room, Written, Lent, Call, calls, said, whole, laterCall, Recovers}
+use Rattle.wire.proofs.Readings.{reads, later}
+use Rattle.wire.specs.Wire.{Each, putAll, Frames, bufferAfter, countAfter, AllAdded, Room, Written, Lent, Call, calls, said, whole, laterCall, Recovers}
 use Rattle.wire.proofs.EachLaws.{each-map}
 use Rattle.wire.proofs.ReadBack.{reads-none, reads-some, putAll-more, reads-back}
 use Rattle.wire.proofs.Resync.{resumes}

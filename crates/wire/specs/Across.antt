@@ -18,5 +18,5 @@ abbrev pub hears : Call → Heard
 hears c = readAnswer (c .heard)
 
 -- the samples that `origin::send` was given, those bits zero that it dropped
-abbrev pub told : Origin → Heard
-told o = record { refusal = 0; s = sampleBits (o .coding); dropped = lost o []; samples = map (cleared (lost o [])) (o .samples) }
+abbrev pub given : Origin → Heard
+given o = record { refusal = 0; s = sampleBits (o .coding); dropped = lost o []; samples = map (cleared (lost o [])) (o .samples) }

@@ -1,3 +1,2 @@
 pub mod Across
-pub mod Reads
 pub mod Wire

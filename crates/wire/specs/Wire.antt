@@ -7,11 +7,21 @@ use lib.Dec.{eqb}
 use lib.ListN.{length, take, getD}
 use Rattle.refusals.specs.Refusals.{refusal1}
 use Rattle.bits.specs.Bits.{bits}
+use Rattle.line.specs.Line.{put}
 use Rattle.line.specs.Calls.{over, addAnswer, addLine, nextAnswer, nextOut}
 use Rattle.line.specs.declared.TakenOff.{TakenOff}
-use Rattle.wire.specs.Reads.{Each, putAll}
+
+-- it holds of each of a list
+abbrev pub Each : {A : Type 0} → (A → Type 0) → List A → Type 0
+Each P [] = Unit {0}
+Each P (x ∷ xs) = P x × Each P xs
 
 -- ---- writing
+
+-- the line after the frames, one after the other
+unfoldable pub putAll : List Bool → List (List ℕ) → List Bool
+putAll line [] = line
+putAll line (f ∷ fs) = putAll (line ++ put line f) fs
 
 -- octets, 10 to 490 of them
 pub record Frame (f : List ℕ) : Type 0 where

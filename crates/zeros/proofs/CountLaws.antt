@@ -9,7 +9,8 @@ use lib.Count.{ones, ones-step}
 use lib.ListN.{length, take, drop, length-take}
 use lib.Seq.{take-nil, take-all, drop-drop}
 use Rattle.bits.specs.Bits.{bits, lowest, value}
-use Rattle.bits.specs.Places.{begins, marks}
+use Rattle.bits.specs.Marks.{marks}
+use Rattle.bits.specs.Places.{begins}
 use Rattle.bits.proofs.BitLaws.{half, odd}
 use Rattle.bits.proofs.MarkLaws.{Marked}
 use Rattle.bits.proofs.UntilLaws.{begins-take}
@@ -64,7 +65,7 @@ module _ (p : List Bool) (k : ℕ) (e : length p ≡ suc k) where
 
 module _ (s : List ℕ) (end : ℕ) (within : end ≤ 8 * length s) (i n w r : ℕ) (en : n ≡ min 56 (end - i)) (ew : w ≡ value (take n (drop i (bits s)))) (er : r ≡ places zeroBehind (lowest n w)) where
   counted : r ≡ places zeroBehind (take 56 (rest s end i))
-  counted = er ∙ ap (places zeroBehind) (seen s end within 56 i n w en ew)
+  counted = er ∙ ap (places zeroBehind) (seen s end 56 i n w en ew within)
 
   pub count-more : places zeroBehind (rest s end i) ≡ r + places zeroBehind (rest s end (i + 51))
   count-more =

@@ -10,19 +10,20 @@ use lib.Pow.{pow-mono, shl-exact, shr-lt}
 use lib.ListN.{length, take, drop, length-append, length-drop, length-take, drop-of-length-le}
 use lib.Seq.{slice, length-slice, take-at, drop-at, drop-drop, length-take-le}
 use Rattle.bits.specs.Bits.{bits, lowest, value, octetsOf}
-use Rattle.bits.proofs.BitLaws.{front-lt, length-bits, length-lowest, length-octets, bits-append, lowest-append, joined-lt, power-octets, poured, drop-take, take-take-min}
+use Rattle.bits.proofs.BitLaws.{length-bits, length-lowest, length-octets, bits-append, lowest-append, joined-lt, power-octets, poured}
+use Rattle.bits.proofs.WindowLaws.{window-is, window-fits}
 use Rattle.zeros.specs.Parts.{carried, Some, More}
 use Rattle.zeros.proofs.CarryLaws.{carried-empty}
 
 -- ---- a look
 
 -- w is what n bits from i on are, at most 48 and none behind the end
-module _ (bs : List Bool) (i end n w : ℕ) (en : n ≡ min 48 (end - i)) (ew : w ≡ value (take n (drop i bs))) where
-  pub look-is : w ≡ value (take 48 (slice i end bs))
-  look-is = rw (ew, en, drop-take i end bs, take-take-min 48 (end - i) (drop i bs))
+module _ (s : List ℕ) (i end n w : ℕ) (en : n ≡ min 48 (end - i)) (ew : w ≡ value (take n (drop i (bits s)))) where
+  pub look-is : w ≡ value (take 48 (slice i end (bits s)))
+  look-is = ew ∙ ap value (window-is s end 48 i n w en ew)
 
   pub look-fits : w < 2 ^ 48
-  look-fits = rw ew (lt-of-lt-of-le (front-lt n (drop i bs)) (pow-mono {i = n} {j = 48} (omega arith)))
+  look-fits = lt-of-lt-of-le (window-fits s end 48 i n w en ew) (pow-mono {i = n} {j = 48} (omega arith))
 
 -- what the bits from i to the end become
 abbrev pub become : Bool → List ℕ → ℕ → ℕ → List Bool

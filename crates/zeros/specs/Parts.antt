@@ -32,7 +32,8 @@ abbrev pub carried : Bool → List Bool → List Bool
 carried true bs = stuff 4 bs
 carried false bs = unstuff 5 bs
 
--- the first `taken` of the bits become the n bits of `made`, and what is left is carried by itself
+-- the first `taken` of the bits (one more than there are, where nothing follows the last five ones) become the n bits of `made`, and what
+-- is left is carried by itself
 pub record Some (writing : Bool) (bs : List Bool) (made n taken : ℕ) : Type 0 where
   pub on : 0 < taken
   pub within : taken ≤ suc (length bs)

@@ -26,7 +26,7 @@ fn behind(made: u64, n: usize, w: u64, k: usize) -> u64
     made + ((w & ((1 << k) - 1)) << n)
 }
 
-// What the first of some bits become: the n bits of `bits`.
+// What the first of some bits become, `taken` of them: the n bits of `bits`.
 struct Piece {
     bits: u64,
     n: usize,

@@ -39,7 +39,7 @@ mark-requires c κs =
     let l = c .before .before .before in
     let s = l .before .before in (
       omega (arith, c .before .lesser .ensures),
-      window-fits (s .args .line .now) (s .args .count) (s .pre .1) 56 (l .loop .i) (c .before .lesser .result) (c .window .result) (c .before .lesser .ensures)
+      window-fits (s .args .line .now) (s .args .count) 56 (l .loop .i) (c .before .lesser .result) (c .window .result) (c .before .lesser .ensures)
           (c .window .ensures),
     )
 

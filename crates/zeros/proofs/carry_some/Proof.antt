@@ -23,7 +23,7 @@ carry-word-requires : tie.Need-carry-word-requires
 carry-word-requires c κs =
     let a = c .before .before .before .before .args in
     let left = c .before .before .lesser in
-    (omega arith, omega arith, look-fits (bits (a .s .now)) (a .i) (a .end) (left .result) (c .before .window .result) (left .ensures) (c .before .window .ensures))
+    (omega arith, omega arith, look-fits (a .s .now) (a .i) (a .end) (left .result) (c .before .window .result) (left .ensures) (c .before .window .ensures))
 
 returns : tie.Need-returns
 returns c =
@@ -31,7 +31,7 @@ returns c =
     let left = c .before .before .before .lesser in
     let w = c .before .before .window in
     let all = bits (a .s .now) in
-    c .carry-word .ensures (slice (a .i) (a .end) all) (look-is all (a .i) (a .end) (left .result) (w .result) (left .ensures) (w .ensures))
+    c .carry-word .ensures (slice (a .i) (a .end) all) (look-is (a .s .now) (a .i) (a .end) (left .result) (w .result) (left .ensures) (w .ensures))
     (omega (arith, length-slice (a .i) (a .end) all (omega (arith, length-bits (a .s .now)))))
 
 pub carry-some-spec : {M : Type 1} → statement M

@@ -61,7 +61,7 @@ zeros-behind-requires : tie.Need-zeros-behind-requires Inv-loop μ-loop
 zeros-behind-requires c κs =
     let l = c .before .before in
     let s = l .before .before in
-    (le-refl 56, window-fits (s .args .s .now) (s .args .end) (s .pre .1) 56 (l .loop .i) 56 (c .window .result) (omega arith) (c .window .ensures))
+    (le-refl 56, window-fits (s .args .s .now) (s .args .end) 56 (l .loop .i) 56 (c .window .result) (omega arith) (c .window .ensures))
 
 add-out : tie.Need-add-out Inv-loop μ-loop
 add-out c = omega (arith, turn c, whole (c .before .before .before .before .before))
@@ -85,7 +85,7 @@ zeros-behind-requires-2 : tie.Need-zeros-behind-requires-2 Inv-loop μ-loop
 zeros-behind-requires-2 c κs =
     let l = c .before .before in
     let s = l .before .before in
-    (omega arith, window-fits (s .args .s .now) (s .args .end) (s .pre .1) 56 (l .loop .i) _ (c .window2 .result) (omega arith) (c .window2 .ensures))
+    (omega arith, window-fits (s .args .s .now) (s .args .end) 56 (l .loop .i) _ (c .window2 .result) (omega arith) (c .window2 .ensures))
 
 sub-result : tie.Need-sub-result Inv-loop μ-loop
 sub-result c = c .before .before .before .before .before .pre .0

@@ -1,21 +1,12 @@
--- Request A4: many frames on one line, and many readings of it, over the line's bits.
+-- Many readings of one line, over its bits: what the calls are shown to be.
 use Prim.Native.Nat.{ℕ, zero, suc, _+_, _≤_}
 use mathlib.Core.Path.{_≡_}
 use mathlib.Core.Bool.{Bool}
 use mathlib.Core.List.{List, [], _∷_, _++_, map}
 use mathlib.Core.Option.{none, some}
 use lib.ListN.{length}
-use Rattle.line.specs.Line.{Reading, next, put}
-
--- it holds of each of a list
-abbrev pub Each : {A : Type 0} → (A → Type 0) → List A → Type 0
-Each P [] = Unit {0}
-Each P (x ∷ xs) = P x × Each P xs
-
--- the line after the frames, one after the other
-unfoldable pub putAll : List Bool → List (List ℕ) → List Bool
-putAll line [] = line
-putAll line (f ∷ fs) = putAll (line ++ put line f) fs
+use Rattle.line.specs.Line.{Reading, next}
+use Rattle.wire.specs.Wire.{Each}
 
 -- what at most n readings give, the first from place p, each other from where the one before it ended, until there is no frame
 unfoldable pub reads : ℕ → List Bool → ℕ → List Reading
