@@ -139,10 +139,6 @@ front-lt n bs = rw (value-take n bs) (mod-lt (value bs) (pow-pos n))
 pub front-is : (n : ℕ) (bs : List Bool) → n ≤ length bs → lowest n (value (take n bs)) ≡ take n bs
 front-is n bs h = ap (λ (k : ℕ). lowest k (value (take n bs))) (sym (length-take-le n bs h)) ∙ lowest-value (take n bs)
 
--- bits are known by their value and how many there are
-pub same-bits : (us vs : List Bool) → length us ≡ length vs → value us ≡ value vs → us ≡ vs
-same-bits us vs n e = sym (lowest-value us) ∙ ap₂ lowest n e ∙ lowest-value vs
-
 -- a number y above the n bits of x
 pub joined-lt : (n m x y : ℕ) → x < 2 ^ n → y < 2 ^ m → x + y * 2 ^ n < 2 ^ (n + m)
 joined-lt n m x y h l =
@@ -170,9 +166,6 @@ module _ (n m x : ℕ) (within : n ≤ m) where
 
   pub lowest-take : take n (lowest m x) ≡ lowest n x
   lowest-take = ap (take n) parts ∙ take-at (lowest n x) (lowest (m - n) (x / 2 ^ n)) n (length-lowest n x)
-
-  pub lowest-drop : drop n (lowest m x) ≡ lowest (m - n) (x / 2 ^ n)
-  lowest-drop = ap (drop n) parts ∙ drop-at (lowest n x) (lowest (m - n) (x / 2 ^ n)) n (length-lowest n x)
 
 -- ---- octets of bits
 

@@ -10,7 +10,7 @@ use borrow.Author.Tests.{ltb-false}
 use lib.ListN.{length, getD, take, drop, length-append}
 use lib.Seq.{slice, take-all}
 use Rattle.octets.proofs.BoolLaws.{or-false}
-use Rattle.refusals.specs.Refusals.{refuse, _orElse_, refusal1}
+use Rattle.refusals.specs.Refusals.{refuse, refusal1}
 use Rattle.refusals.proofs.RefusalLaws.{if-taken, refused-is, done-is, orElse-take, orElse-pass, orElse-zero, refuse-zero}
 use Rattle.bits.specs.Bits.{bits, lowest, octetsOf}
 use Rattle.bits.proofs.BitLaws.{length-bits, octets-of-bits}
