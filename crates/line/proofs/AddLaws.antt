@@ -62,6 +62,9 @@ all-bits f h =
 pub room-for-most : (n begin : ℕ) (f : List ℕ) → over n (begin + (8 * length f + 8 * length f / 5 + 8)) ≡ false → false ≡ over n (begin + (length (sentAs f) + 8))
 room-for-most n begin f h = over-less n (begin + (length (sentAs f) + 8)) (begin + (8 * length f + 8 * length f / 5 + 8)) (omega (arith, sent-most f)) h
 
+pub room-for-it : (n begin sent : ℕ) (f : List ℕ) (t : Bool) → sent ≡ length (sentAs f) → t ≡ over n (begin + (sent + 8)) → t ≡ over n (begin + (length (sentAs f) + 8))
+room-for-it n begin sent f t e h = h ∙ ap (λ (m : ℕ). over n (begin + (m + 8))) e
+
 -- ---- the order
 
 module _ (buffer f : List ℕ) (count : ℕ) where

@@ -10,7 +10,7 @@ use borrow.Author.Tests.{lt-ltb, le-ltb, ltb-false, eqb-true, not-false}
 use lib.ListN.{length, getD, take, drop}
 use lib.Seq.{slice, take-take}
 use Rattle.octets.proofs.BoolLaws.{or-false}
-use Rattle.refusals.specs.Refusals.{_orElse_, refusal16}
+use Rattle.refusals.specs.Refusals.{_orElse_, refuse, refusal1, refusal16}
 use Rattle.refusals.proofs.RefusalLaws.{if-taken, if-refused, refused-is, orElse-take, orElse-zero, refuse-zero}
 use Rattle.bits.specs.Bits.{bits, value, octetsOf}
 use Rattle.bits.proofs.BitLaws.{length-octets}
@@ -27,6 +27,12 @@ no r p = record { refusal = r; found = false; length = 0; place = p }
 
 abbrev got : ℕ → ℕ → TakenOff
 got n p = record { refusal = 0; found = true; length = n; place = p }
+
+-- 22, 23, 1, each found by itself
+pub in-order : (aborted : Bool) (n left stop size then r : ℕ) → left ≡ refuse (not (eqb (n % 8) 0)) 22 → stop ≡ refuse aborted 23 → size ≡ refusal1 (n / 8)
+    → then ≡ stop orElse size → r ≡ left orElse then → r ≡ betweenRefusal aborted n
+unfolding betweenRefusal
+in-order aborted n left stop size then r el es ez et er = er ∙ ap₂ _orElse_ el (et ∙ ap₂ _orElse_ es ez)
 
 -- what is not refused makes whole octets
 whole-octets : (n r : ℕ) (s : Bool) → r ≡ betweenRefusal s n → r ≡ 0 → n % 8 ≡ 0

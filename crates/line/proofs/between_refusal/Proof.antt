@@ -1,6 +1,4 @@
-use mathlib.Core.Path.{ap₂, _∙_}
-use Rattle.refusals.specs.Refusals.{_orElse_}
-use Rattle.line.specs.Line.{betweenRefusal}
+use Rattle.line.proofs.NextLaws.{in-order}
 use Rattle.line.proofs.between_refusal.Statement.{statement}
 use Rattle.line.proofs.between_refusal.Tie as tie
 
@@ -20,11 +18,13 @@ or-else-requires-2 : tie.Need-or-else-requires-2
 or-else-requires-2 c κs = tt
 
 returns : tie.Need-returns
-unfolding betweenRefusal
 returns c =
-    c .or-else2 .ensures
-    ∙ ap₂ _orElse_ (c .before .refuse2 .ensures)
-    (c .before .before .or-else .ensures ∙ ap₂ _orElse_ (c .before .before .before .before .refuse .ensures) (c .before .before .before .refusal-1 .ensures))
+    let left = c .before .refuse2 in
+    let then = c .before .before .or-else in
+    let size = c .before .before .before .refusal-1 in
+    let stop = c .before .before .before .before .refuse in
+    let a = c .before .before .before .before .before .args in
+    in-order (a .aborted) (a .n) (left .result) (stop .result) (size .result) (then .result) (c .or-else2 .result) (left .ensures) (stop .ensures) (size .ensures) (then .ensures) (c .or-else2 .ensures)
 
 pub between-refusal-spec : {M : Type 1} → statement M
 between-refusal-spec =

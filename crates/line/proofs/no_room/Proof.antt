@@ -1,12 +1,10 @@
-use Prim.Native.Nat.{ℕ, _+_}
 use mathlib.Core.Path.{_≡_, sym, ap, _∙_}
 use native.Mathlib.Omega.{arith}
 use borrow.Author.Tests.{not-true}
 use lib.ListN.{length}
 use Rattle.zeros.specs.Zeros.{stuff}
 use Rattle.line.specs.Parts.{sentAs}
-use Rattle.line.specs.Calls.{over}
-use Rattle.line.proofs.AddLaws.{all-bits, whole-frame, sent-most, room-for-most}
+use Rattle.line.proofs.AddLaws.{all-bits, whole-frame, sent-most, room-for-most, room-for-it}
 use Rattle.line.proofs.no_room.Statement.{statement}
 use Rattle.line.proofs.no_room.Tie as tie
 
@@ -42,7 +40,7 @@ lacks-requires-2 c κs = tt
 returns-2 : tie.Need-returns-2
 returns-2 c =
     let a = c .before .before .before .before .before .args in
-    c .lacks2 .ensures ∙ ap (λ (m : ℕ). over (a .n) (a .begin + (m + 8))) (sent-is (c .before))
+    room-for-it (a .n) (a .begin) (c .before .carried-length .result) (a .frame .now) (c .lacks2 .result) (sent-is (c .before)) (c .lacks2 .ensures)
 
 pub no-room-spec : {M : Type 1} → statement M
 no-room-spec =
