@@ -1,7 +1,7 @@
 /* Two bursts of speech from an origin through two nodes to an endpoint, as an operator would want to
  * see them: what each frame weighs on the way, when it is played and what is left of the voice. The
- * stop packet of the second comes late. The signalling of a trunk that dies and comes back. And two
- * frames on a line of bare bits. */
+ * stop packet of the second comes late. The signalling of a trunk that dies and comes back. And three
+ * frames on a line of bare bits, one of them damaged there. */
 
 #include <stdio.h>
 #include <string.h>
@@ -9,7 +9,10 @@
 #include "pelgrant.h"
 
 /* The stop packet has a noise of its own, so that it is seen to count. */
-enum { CODING = 21, NOISE = 3, NOISE_AT_STOP = 5, BUILD_OUT = 100, PACKETS = 6, LATE = 17 };
+enum { CODING = 21, NOISE = 3, NOISE_AT_STOP = 5, BUILD_OUT = 100, PACKETS = 6, FRAMES = 3 };
+
+/* Refusals after which it goes on: a packet that is late, and what of a line is damaged. */
+enum { LATE = 17, FRAME_SIZE = 1, PART_OCTET = 22, ABORT = 23 };
 
 typedef struct {
     uint8_t octets[PELGRANT_FRAME_MAX];
@@ -89,34 +92,44 @@ static int trunk(void)
     return 0;
 }
 
-/* The voice frame and a signalling frame are put on a line behind one another, and taken off again. */
+/* A signalling frame, the voice frame and the first again are put on a line behind one another. The voice
+ * frame is damaged there; the other two are taken off as they were. */
 static int bare_bits(const frame *voice)
 {
-    uint8_t line[256], out[PELGRANT_FRAME_MAX];
-    uint64_t answer[3], count = 0, place = 0;
-    frame put[2] = {*voice, {{0}, 0}};
-    uint8_t number = pelgrant_signal_write(8, 0, 0, 0, 4711, put[1].octets, sizeof put[1].octets, answer, 1);
+    uint8_t line[256], out[PELGRANT_LINE_FRAME_MAX];
+    uint64_t answer[3];
+    size_t count = 0, place = 0;
+    frame signalling = {{0}, 0};
+    uint8_t number = pelgrant_signal_write(8, 0, 0, 0, 4711, signalling.octets, sizeof signalling.octets, answer, 1);
     if (number != 0)
         return refused("the signalling writer", number);
-    put[1].length = (size_t)answer[0];
+    signalling.length = (size_t)answer[0];
+    const frame *const put[FRAMES] = {&signalling, voice, &signalling};
 
-    printf("\nTwo frames on a line of bits\n\n");
-    for (int n = 0; n < 2; n++) {
-        number = pelgrant_line_add(line, sizeof line, (size_t)count, put[n].octets, put[n].length, &count, 1);
+    printf("\nThree frames on a line of bits\n\n");
+    for (int n = 0; n < FRAMES; n++) {
+        number = pelgrant_line_add(line, sizeof line, count, put[n]->octets, put[n]->length, answer, 1);
         if (number != 0)
-            return refused("the line's writer", number);
-        printf("put on: %2zu octets, %llu bits on the line\n", put[n].length, (unsigned long long)count);
+            return refused("the line's writer", number); /* the answer is 0 then, and the count as it was */
+        count = (size_t)answer[0];
+        printf("put on: %2zu octets, %zu bits on the line\n", put[n]->length, count);
     }
+    line[50] = 0xFF; /* the damage */
     for (int n = 0;; n++) {
-        number = pelgrant_line_next(line, sizeof line, (size_t)count, (size_t)place, out, sizeof out, answer, 3);
-        if (number != 0)
+        number = pelgrant_line_next(line, sizeof line, count, place, out, sizeof out, answer, 3);
+        int damaged = number == FRAME_SIZE || number == PART_OCTET || number == ABORT;
+        if (number != 0 && !damaged)
             return refused("the line's reader", number);
-        if (answer[0] == 0)
-            break;
-        int same = n < 2 && answer[1] == put[n].length && memcmp(out, put[n].octets, put[n].length) == 0;
-        place = answer[2]; /* the closing flag opens the next frame */
-        printf("taken off: %2llu octets, %s; closing flag at bit %llu\n", (unsigned long long)answer[1],
-            same ? "the same" : "others", (unsigned long long)place);
+        if (number == 0 && answer[0] == 0)
+            break; /* the place stays, for when there are more bits */
+        place = (size_t)answer[2]; /* where the closing flag, which opens the next frame, or the abort begins */
+        if (damaged) {
+            printf("refused: %u; on from bit %zu\n", number, place);
+            continue;
+        }
+        int same = n < FRAMES && answer[1] == put[n]->length && memcmp(out, put[n]->octets, put[n]->length) == 0;
+        printf("taken off: %2llu octets, %s; closing flag at bit %zu\n", (unsigned long long)answer[1],
+            same ? "the same" : "others", place);
     }
     printf("no frame from there on\n");
     return 0;

@@ -20,10 +20,11 @@
  * but for one thing: an arrival refused with 17 or 20 still stores the frame's more bit and noise in the
  * record. A frame written leaves the rest of its buffer as it was, on a line to the bit.
  *
- * A frame is the octets between two flags, zero bits taken out: 10 to 490 octets, and none that is made
- * here is longer than PELGRANT_FRAME_MAX. Flags and zero bits are the work of the two calls of a line
- * alone; to all the others a frame comes without them. A wait is lent as two readings of a 32-bit
- * millisecond clock, from and to, which may roll over in between.
+ * A frame is the octets between two flags, zero bits taken out: 10 to 490 octets. None that the origin or
+ * a node writes is longer than PELGRANT_FRAME_MAX; a line may carry others, up to PELGRANT_LINE_FRAME_MAX.
+ * Flags and zero bits are the work of the two calls of a line alone; to all the others a frame comes
+ * without them. A wait is lent as two readings of a 32-bit millisecond clock, from and to, which may roll
+ * over in between.
  *
  * A line is lent octets and a count of bits, lowest bit of each octet first: bit i of the line is bit
  * i % 8 of octet i / 8. A flag is a zero, six ones and a zero.
@@ -39,10 +40,11 @@ extern "C" {
 #endif
 
 enum {
-    PELGRANT_SAMPLES = 128,   /* in a packet, one to an octet */
-    PELGRANT_FRAME_MAX = 138, /* octets of the longest frame that is written */
-    PELGRANT_RECORD = 6,      /* numbers in an endpoint's record */
-    PELGRANT_WATCH = 9        /* numbers in a circuit's signalling watch */
+    PELGRANT_SAMPLES = 128,        /* in a packet, one to an octet */
+    PELGRANT_FRAME_MAX = 138,      /* octets of the longest frame that the origin or a node writes */
+    PELGRANT_LINE_FRAME_MAX = 490, /* octets of the longest frame that a line carries */
+    PELGRANT_RECORD = 6,           /* numbers in an endpoint's record */
+    PELGRANT_WATCH = 9             /* numbers in a circuit's signalling watch */
 };
 
 /* The steps of a burst. */
@@ -224,8 +226,9 @@ uint8_t pelgrant_line_add(uint8_t *line, size_t line_len, size_t count, const ui
 /* Takes the next frame off a line: what stands between the first flag from a place on that opens and the
  * first flag or seven ones behind it, without the bit behind each five ones. A flag opens unless another
  * begins on its last zero or directly behind it; a place inside a flag does not see it.
- * Lent: line; count, the bits that it has; place, the bit to look from, 0 at first and then the place that
- *   was answered last; out, for the frame: 490 octets hold any.
+ * Lent: line; count, the bits that it has; place, the bit to look from (0 at first; then the place answered
+ *   with a frame or with 1, 22 or 23; after no frame or 16 the same place again); out, for the frame:
+ *   PELGRANT_LINE_FRAME_MAX octets hold any.
  * Back: answer[0] 1, answer[1] the frame's length, answer[2] the place where its closing flag begins, and
  *   the frame in out; or zeros and no refusal where nothing that is opened is ended before the count.
  * Refusals: 16 (answer below 3), 14 for a count past the end of line or a place past the count, 22 where the
