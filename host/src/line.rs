@@ -5,12 +5,14 @@
 
 use crate::document::Refusal::{self, Abort, Buffer, FrameSize, PartOctet, Record};
 use crate::document::{refuse_if, FRAME_SIZES};
-use std::ops::Range;
 
 const FLAG: [bool; 8] = [false, true, true, true, true, true, true, false];
-const SEVEN_ONES: [bool; 7] = [true; 7];
 /// So many ones in a row have a zero put in behind them.
 const ONES: usize = 5;
+/// So many between two zeros are a flag.
+const FLAG_ONES: usize = 6;
+/// So many end what a flag has opened.
+const ABORT_ONES: usize = 7;
 
 fn bit(octets: &[u8], at: usize) -> bool {
     octets[at / 8] >> (at % 8) & 1 == 1
@@ -78,60 +80,52 @@ pub struct Unread {
     pub end: usize,
 }
 
-/// The bits of a line before its count.
-#[derive(Clone, Copy)]
-struct Bits<'a> {
-    octets: &'a [u8],
-    count: usize,
-}
-
-impl Bits<'_> {
-    /// Whether all of a pattern stands at a place that is not past the count.
-    fn has(self, pattern: &[bool], place: usize) -> bool {
-        self.count - place >= pattern.len()
-            && (place..).zip(pattern).all(|(at, wanted)| bit(self.octets, at) == *wanted)
-    }
-
-    fn flag(self, place: usize) -> bool {
-        self.has(&FLAG, place)
-    }
-
-    /// A flag opens unless another begins on its last zero or directly behind it.
-    fn opens(self, place: usize) -> bool {
-        self.flag(place) && !self.flag(place + 7) && !self.flag(place + 8)
-    }
-
-    fn ends(self, place: usize) -> bool {
-        self.flag(place) || self.has(&SEVEN_ONES, place)
-    }
-}
-
-/// The bits between two places without the one behind each five ones.
-fn content(line: &[u8], between: Range<usize>) -> impl Iterator<Item = bool> + '_ {
-    let mut ones = 0;
-    between.map(|at| bit(line, at)).filter(move |bit| {
-        let kept = ones < ONES;
-        ones = if kept && *bit { ones + 1 } else { 0 };
-        kept
-    })
-}
-
 /// What one flag opens and the next, or seven ones, end.
-#[derive(Clone, Copy, Debug, PartialEq, Eq)]
+#[derive(Clone, Debug, PartialEq, Eq)]
 pub struct Stretch {
-    first: usize,
+    /// Without the zeros put in.
+    pub bits: Vec<bool>,
     pub end: usize,
-    /// Those left when the zeros put in are out.
-    pub bits: usize,
     pub aborted: bool,
 }
 
-/// The first from a place on; the line holds the count, and the place is not past it.
+/// The first from a place on; the line holds the count. It goes over the bits once, as a receiver does that
+/// gets them one by one.
 pub fn stretch(line: &[u8], count: usize, place: usize) -> Option<Stretch> {
-    let bits = Bits { octets: line, count };
-    let first = (place..count).find(|at| bits.opens(*at))? + FLAG.len();
-    let end = (first..count).find(|at| bits.ends(*at))?;
-    Some(Stretch { first, end, bits: content(line, first..end).count(), aborted: !bits.flag(end) })
+    // What came since the last flag, and how much of it before the last zero: if a flag begins on that
+    // zero, the rest is the flag's own.
+    let (mut open, mut bits, mut before_zero) = (false, Vec::new(), 0);
+    // The ones since the last zero. Before the first zero they are no flag's, however few.
+    let mut ones = ABORT_ONES;
+    for at in place..count {
+        match (bit(line, at), ones) {
+            (false, FLAG_ONES) => {
+                bits.truncate(before_zero);
+                if !bits.is_empty() {
+                    return Some(Stretch { bits, end: at - FLAG_ONES - 1, aborted: false });
+                }
+                (open, ones) = (true, 0);
+            }
+            (false, _) => {
+                before_zero = bits.len();
+                if open && ones != ONES {
+                    bits.push(false);
+                }
+                ones = 0;
+            }
+            (true, _) => {
+                ones += 1;
+                if open {
+                    bits.push(true);
+                }
+                if open && ones == ABORT_ONES {
+                    bits.truncate(bits.len() - ABORT_ONES);
+                    return Some(Stretch { bits, end: at + 1 - ABORT_ONES, aborted: true });
+                }
+            }
+        }
+    }
+    None
 }
 
 /// Copies the next frame from a place on to the front of `out`.
@@ -140,9 +134,9 @@ pub fn next(line: &[u8], count: usize, place: usize, out: &mut [u8]) -> Result<O
     if !holds(line, count) || place > count {
         return refused(Record, 0);
     }
-    let Some(Stretch { first, end, bits, aborted }) = stretch(line, count, place) else { return Ok(None) };
-    let length = bits / 8;
-    if bits % 8 != 0 {
+    let Some(Stretch { bits, end, aborted }) = stretch(line, count, place) else { return Ok(None) };
+    let length = bits.len() / 8;
+    if bits.len() % 8 != 0 {
         return refused(PartOctet, end);
     }
     if aborted {
@@ -152,7 +146,7 @@ pub fn next(line: &[u8], count: usize, place: usize, out: &mut [u8]) -> Result<O
         return refused(FrameSize, end);
     }
     let Some(frame) = out.get_mut(..length) else { return refused(Buffer, 0) };
-    for (at, bit) in content(line, first..end).enumerate() {
+    for (at, bit) in bits.into_iter().enumerate() {
         put(frame, at, bit);
     }
     Ok(Some(Frame { length, end }))

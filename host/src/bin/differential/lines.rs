@@ -273,7 +273,7 @@ impl Reading {
 
     /// Octets to be lent for what is read: enough for it or, where there is a frame, too few.
     pub fn room(&self, random: &mut Random, short: bool) -> usize {
-        let length = self.stretch().map_or(0, |stretch| stretch.bits / 8);
+        let length = self.stretch().map_or(0, |stretch| stretch.bits.len() / 8);
         let likely = random.pick(&[0, 9, 10, 490, 491]);
         match (10..=490).contains(&length) {
             true => room(random, length, short),
@@ -375,7 +375,7 @@ impl Cases {
             return;
         }
         let stretch = reading.stretch();
-        let column = match (number, stretch) {
+        let column = match (number, &stretch) {
             (22, Some(Stretch { aborted: true, .. })) => 3,
             (22, _) => 2,
             (23, _) => 4,
@@ -386,7 +386,8 @@ impl Cases {
         };
         self.read.count(way, column);
         if let Some(Stretch { bits, aborted, .. }) = stretch {
-            self.stretches.count(length_row(bits / 8), 2 * usize::from(aborted) + usize::from(bits % 8 != 0));
+            let (length, part) = (bits.len() / 8, bits.len() % 8 != 0);
+            self.stretches.count(length_row(length), 2 * usize::from(aborted) + usize::from(part));
         }
         let mut run = 0;
         for (at, bit) in bits_of(octets, count).into_iter().chain([false]).enumerate() {
