@@ -591,19 +591,26 @@ struct Read {
     place: usize,
 }
 
-/// All that the card reads from a place on, until there is no frame.
+/// All that the card reads from a place on, until there is no frame. Any other answer has to be a frame, 1, 22
+/// or 23, and its place behind the one before: neither another refusal nor a standstill passes as the end.
 fn read_all(line: &[u8], count: usize, place: usize) -> Vec<Read> {
     let (mut all, mut place) = (Vec::new(), place);
     loop {
-        let (mut out, mut answer) = ([0; 490], [0; 3]);
+        let (mut out, mut answer) = ([0; 490], [u64::MAX; 3]);
         let number = Card.line_next(line, count, place, &mut out, &mut answer);
-        let [_, length, end] = answer.map(|value| value as usize);
-        // Each place answered is behind the one before, or the card does not end.
-        if end <= place {
+        if (number, answer) == (0, [0; 3]) {
             return all;
         }
+        let [found, length, end] = answer.map(|value| value as usize);
+        let is_frame = (number, found) == (0, 1) && (10..=490).contains(&length);
+        let is_refused = matches!(number, 1 | 22 | 23) && (found, length) == (0, 0);
+        let moves_on = place < end && end < count;
+        assert!(
+            (is_frame || is_refused) && moves_on,
+            "line_next: {number} and {answer:?} from {place} on, {count} bits of {line:?}"
+        );
         place = end;
-        all.push(Read { number, frame: out[..length.min(490)].to_vec(), place });
+        all.push(Read { number, frame: out[..length].to_vec(), place });
     }
 }
 
