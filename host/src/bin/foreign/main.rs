@@ -200,7 +200,7 @@ impl Run {
         let flags = 1 + self.random.size_below(3);
         let room = written(&frames).0.len() + 3 * frames.len() + 2 + self.random.size_below(5);
         let line = stack.write(&given, flags, room);
-        let Heard { frames: found, refused, .. } = heard(&line, 8 * room);
+        let Heard { frames: found, refused } = heard(&line, 8 * room);
         self.compare("a line of theirs", &frames.iter().map(Vec::as_slice).collect::<Vec<_>>(), &found);
         self.hold("something refused between frames of theirs", refused.is_empty());
     }
