@@ -40,7 +40,7 @@ lacks-requires-2 c κs = tt
 returns-2 : tie.Need-returns-2
 returns-2 c =
     let a = c .before .before .before .before .before .args in
-    room-for-it (a .n) (a .begin) (c .before .carried-length .result) (a .frame .now) (c .lacks2 .result) (sent-is (c .before)) (c .lacks2 .ensures)
+    room-for-it (a .n) (a .begin) (c .before .sent-length .result) (a .frame .now) (c .lacks2 .result) (sent-is (c .before)) (c .lacks2 .ensures)
 
 pub no-room-spec : {M : Type 1} → statement M
 no-room-spec =
