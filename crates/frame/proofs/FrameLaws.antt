@@ -12,23 +12,24 @@ use Rattle.refusals.specs.Refusals.{_orElse_, refuse, refusal1}
 use Rattle.refusals.proofs.RefusalLaws.{orElse-zero, orElse-take, orElse-pass, orElse-assoc, refuse-zero, in-range, range-in}
 use Rattle.fcs.specs.Fcs.{fcsGood}
 use Rattle.coding.specs.Coding.{droppableBits, reserved}
-use Rattle.frame.specs.Fields.{address, control, isVoice, fieldM, fieldC, stamp, coding, covered}
-use Rattle.frame.specs.Orders.{refusal2, refusal3, refusal4, refusal5, refusal7, refusal8, refusal9, refusal19, legalLength, linkRefusal, layoutRefusal, takenRefusal, voiceRefusal, signalRefusal}
+use Rattle.frame.specs.Fields.{address, commandBit, pollBit, control, isVoice, fieldM, fieldC, stamp, coding, covered}
+use Rattle.frame.specs.Orders.{refusal2, refusal3, refusal24, refusal4, refusal5, refusal7, refusal8, refusal9, refusal19, legalLength, linkRefusal, layoutRefusal, takenRefusal, voiceRefusal, signalRefusal}
 
--- 1, 2 and 3, which cost no sum
+-- 1, 2, 3 and 24, which cost no sum
 abbrev pub formRefusal : List ℕ → ℕ
-formRefusal f = refusal1 (length f) orElse refusal2 f orElse refusal3 f
+formRefusal f = refusal1 (length f) orElse refusal2 f orElse refusal3 f orElse refusal24 f
 
 -- 4 and 5
 abbrev pub sumRefusal : List ℕ → ℕ
 sumRefusal f = refusal4 f orElse refusal5 f
 
--- 1, 2 and 3 are judged together, and then 4 and 5
+-- 1, 2, 3 and 24 are judged together, and then 4 and 5
 pub link-parts : (f : List ℕ) → linkRefusal f ≡ formRefusal f orElse sumRefusal f
 unfolding linkRefusal
 link-parts f =
-    ap (λ (r : ℕ). refusal1 (length f) orElse r) (orElse-assoc (refusal2 f) (refusal3 f) (sumRefusal f))
-    ∙ orElse-assoc (refusal1 (length f)) (refusal2 f orElse refusal3 f) (sumRefusal f)
+    ap (λ (r : ℕ). refusal1 (length f) orElse refusal2 f orElse r) (orElse-assoc (refusal3 f) (refusal24 f) (sumRefusal f))
+    ∙ ap (λ (r : ℕ). refusal1 (length f) orElse r) (orElse-assoc (refusal2 f) (refusal3 f orElse refusal24 f) (sumRefusal f))
+    ∙ orElse-assoc (refusal1 (length f)) (refusal2 f orElse refusal3 f orElse refusal24 f) (sumRefusal f)
 
 -- and whatever comes after them
 link-then : (f : List ℕ) (n : ℕ) → formRefusal f orElse (sumRefusal f orElse n) ≡ linkRefusal f orElse n
@@ -65,7 +66,7 @@ module _ (f : List ℕ) (form : ℕ) (form-is : form ≡ formRefusal f) where
       past-form (refusal19 call f orElse n) r z
       (orElse-pass (sumRefusal f orElse refusal19 call f) n first r (in-order (sumRefusal f) (refusal19 call f) sum other first p q e) s h ∙ sym (orElse-assoc (sumRefusal f) (refusal19 call f) n))
 
--- 1 to 5
+-- 1 to 5, with 24
 pub record Linked (f : List ℕ) : Type 0 where
   pub long : 10 ≤ length f
   pub short : length f ≤ 490
@@ -74,6 +75,8 @@ pub record Linked (f : List ℕ) : Type 0 where
   pub addr-low : 128 ≤ address f
   pub addr-high : address f ≤ 8063
   pub known : (not (eqb (control f) 239) && not (eqb (control f) 3)) ≡ false
+  pub command : commandBit f ≡ 0
+  pub poll : pollBit f ≡ 0
   pub check : fcsGood (covered f) f ≡ true
   pub ident : octet 4 f ≡ 68
 
@@ -84,7 +87,7 @@ pub record LaidOut (f : List ℕ) : Type 0 where
   pub size : length f ≡ legalLength f
   pub stamped : stamp f ≤ 200
 
--- what a node takes: 1 to 9
+-- what a node takes: 1 to 9, with 24
 pub record Passes (f : List ℕ) : Type 0 where
   pub linked : Linked f
   pub coded : (isVoice f && reserved (coding f)) ≡ false
@@ -96,11 +99,13 @@ link-passes f h =
     let q1 = orElse-zero _ _ h in
     let q2 = orElse-zero _ _ (q1 .1) in
     let q3 = orElse-zero _ _ (q2 .1) in
-    let q4 = orElse-zero _ _ (q3 .1) in
+    let q24 = orElse-zero _ _ (q3 .1) in
+    let q4 = orElse-zero _ _ (q24 .1) in
     let t1 = or-false _ _ (refuse-zero _ 0 (q1 .0)) in
     let t2 = or-false _ _ (refuse-zero _ 1 (q2 .0)) in
     let t2' = or-false _ _ (t2 .0) in
     let t2r = in-range _ (t2 .1) in
+    let t24 = or-false _ _ (refuse-zero _ 23 (q24 .0)) in
     record {
       long = ltb-false _ _ (t1 .0);
       short = ltb-false _ _ (t1 .1);
@@ -109,6 +114,8 @@ link-passes f h =
       addr-low = t2r .0;
       addr-high = t2r .1;
       known = refuse-zero _ 2 (q3 .0);
+      command = eqb-true _ _ (not-false _ (t24 .0));
+      poll = eqb-true _ _ (not-false _ (t24 .1));
       check = not-false _ (refuse-zero _ 3 (q4 .0));
       ident = eqb-true _ _ (not-false _ (refuse-zero _ 4 (q4 .1)));
     }
@@ -143,6 +150,8 @@ link-passed f p =
       eq-eqb _ _ (p .bit2),
       range-in _ (p .addr-low) (p .addr-high),
       p .known,
+      eq-eqb _ _ (p .command),
+      eq-eqb _ _ (p .poll),
       p .check,
       eq-eqb _ _ (p .ident),
     )

@@ -10,6 +10,14 @@ use Rattle.octets.specs.Octets.{octet}
 abbrev pub address : List ℕ → ℕ
 address f = octet 1 f / 4 * 128 + octet 2 f / 2
 
+-- bit 2 of octet 1 is C/R
+abbrev pub commandBit : List ℕ → ℕ
+commandBit f = octet 1 f / 2 % 2
+
+-- bit 5 of octet 3 is the poll bit
+abbrev pub pollBit : List ℕ → ℕ
+pollBit f = octet 3 f / 16 % 2
+
 -- octet 3, poll bit aside
 abbrev pub control : List ℕ → ℕ
 control f = octet 3 f / 32 * 32 + octet 3 f % 16

@@ -1,3 +1,4 @@
 pub mod Fields
 pub mod Orders
+pub mod Ignored
 pub mod Calls

@@ -8,7 +8,7 @@ use Rattle.octets.specs.Octets.{octet}
 use Rattle.refusals.specs.Refusals.{_orElse_, refuse, addressBad, refusal1}
 use Rattle.fcs.specs.Fcs.{fcsGood}
 use Rattle.coding.specs.Coding.{droppableBits, frameLength, reserved}
-use Rattle.frame.specs.Fields.{address, control, isVoice, fieldM, fieldC, stamp, coding, covered}
+use Rattle.frame.specs.Fields.{address, commandBit, pollBit, control, isVoice, fieldM, fieldC, stamp, coding, covered}
 
 -- bit 1 of octet 1 not 0, of octet 2 not 1, or address outside range
 abbrev pub refusal2 : List ℕ → ℕ
@@ -17,6 +17,10 @@ refusal2 f = refuse (not (eqb (octet 1 f % 2) 0) || not (eqb (octet 2 f % 2) 1) 
 -- octet 3, poll bit aside, neither 239 nor 3
 abbrev pub refusal3 : List ℕ → ℕ
 refusal3 f = refuse (not (eqb (control f) 239) && not (eqb (control f) 3)) 3
+
+-- C/R or poll bit set
+abbrev pub refusal24 : List ℕ → ℕ
+refusal24 f = refuse (not (eqb (commandBit f) 0) || not (eqb (pollBit f) 0)) 24
 
 -- check sequence wrong
 abbrev pub refusal4 : List ℕ → ℕ
@@ -50,22 +54,22 @@ refusal9 f = refuse (ltb 200 (stamp f)) 9
 abbrev pub refusal19 : Bool → List ℕ → ℕ
 refusal19 voiceCall f = refuse (cond voiceCall (not (isVoice f)) (isVoice f)) 19
 
--- 1 to 5
+-- 1 to 5, with 24 after 3
 unfoldable pub linkRefusal : List ℕ → ℕ
-linkRefusal f = refusal1 (length f) orElse refusal2 f orElse refusal3 f orElse refusal4 f orElse refusal5 f
+linkRefusal f = refusal1 (length f) orElse refusal2 f orElse refusal3 f orElse refusal24 f orElse refusal4 f orElse refusal5 f
 
 -- 7, 8, 9
 unfoldable pub layoutRefusal : List ℕ → ℕ
 layoutRefusal f = refusal7 f orElse refusal8 f orElse refusal9 f
 
--- a node: 1 to 5, then 6 (voice only), 7, 8, 9
+-- a node: the link's numbers, then 6 (voice only), 7, 8, 9
 unfoldable pub takenRefusal : List ℕ → ℕ
 takenRefusal f = linkRefusal f orElse refusal6 f orElse layoutRefusal f
 
--- voice reader: 1 to 5, 19, 6 to 9
+-- voice reader: the link's numbers, 19, 6 to 9
 unfoldable pub voiceRefusal : List ℕ → ℕ
 voiceRefusal f = linkRefusal f orElse refusal19 true f orElse refusal6 f orElse layoutRefusal f
 
--- signalling reader: 1 to 5, 19, 7, 8, 9
+-- signalling reader: the link's numbers, 19, 7, 8, 9
 unfoldable pub signalRefusal : List ℕ → ℕ
 signalRefusal f = linkRefusal f orElse refusal19 false f orElse layoutRefusal f

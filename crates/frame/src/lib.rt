@@ -8,7 +8,7 @@ ghost use Rattle.octets.specs.Octets.{octet};
 ghost use Rattle.refusals.specs.Refusals.{_orElse_, refusal1};
 ghost use Rattle.coding.specs.Coding.{droppableBits};
 ghost use Rattle.frame.specs.Fields.{address, control, isVoice, fieldM, fieldC, stamp, moreBit, coding, sequence, noise, na, signalBits};
-ghost use Rattle.frame.specs.Orders.{refusal2, refusal3, refusal4, refusal5, refusal6, refusal19, legalLength, linkRefusal, layoutRefusal, takenRefusal, voiceRefusal, signalRefusal};
+ghost use Rattle.frame.specs.Orders.{refusal2, refusal3, refusal24, refusal4, refusal5, refusal6, refusal19, legalLength, linkRefusal, layoutRefusal, takenRefusal, voiceRefusal, signalRefusal};
 ghost use Rattle.frame.specs.Calls.{linkAnswer, takenAnswer};
 use coding::Coding;
 use octets::at;
@@ -104,6 +104,14 @@ fn refusal_3(frame: &[u8]) -> u8
     refuse((control != 239) & (control != 3), 3)
 }
 
+fn refusal_24(frame: &[u8]) -> u8
+    ensures { λ r. ⌜ r ≡ refusal24 (now (frame .entry)) ⌝ }
+{
+    let command = at(frame, 0) / 2 % 2;
+    let poll = at(frame, 2) / 16 % 2;
+    refuse((command != 0) | (poll != 0), 24)
+}
+
 fn refusal_4(frame: &[u8]) -> u8
     ensures { λ r. ⌜ r ≡ refusal4 (now (frame .entry)) ⌝ }
 {
@@ -159,15 +167,15 @@ fn refusal_19(frame: &[u8], voicecall: bool) -> u8
     }
 }
 
-// 1, 2 and 3. Below the return the compiler knows the length, and tests no index.
+// 1, 2, 3 and 24. Below the return the compiler knows the length, and tests no index.
 fn form_refusal(frame: &[u8]) -> u8
-    ensures { λ r. ⌜ r ≡ refusal1 (length (now (frame .entry))) orElse refusal2 (now (frame .entry)) orElse refusal3 (now (frame .entry)) ⌝ }
+    ensures { λ r. ⌜ r ≡ refusal1 (length (now (frame .entry))) orElse refusal2 (now (frame .entry)) orElse refusal3 (now (frame .entry)) orElse refusal24 (now (frame .entry)) ⌝ }
 {
     let size = refusals::refusal_1(frame.len());
     if size != 0 {
         return size;
     }
-    or_else(refusal_2(frame), refusal_3(frame))
+    or_else(refusal_2(frame), or_else(refusal_3(frame), refusal_24(frame)))
 }
 
 // 4 and 5: the check sequence is summed only once the form is right.
@@ -264,7 +272,7 @@ pub struct LinkFacts {
     pub address: u16,
 }
 
-// Whether a frame is whole and in its form (1 to 5), and what it is: voice or not, and its address.
+// Whether a frame is whole and in its form (1 to 5 with 24), and what it is: voice or not, and its address.
 pub fn link(frame: &[u8]) -> LinkFacts
     ensures { λ r. ⌜ r ≡ linkAnswer (now (frame .entry)) ⌝ }
 {
@@ -290,7 +298,7 @@ pub struct TakenFacts {
     pub c: u8,
 }
 
-// Whether a node takes a frame (1 to 9), and what it is: voice or not, its length, and its C.
+// Whether a node takes a frame (1 to 9 with 24), and what it is: voice or not, its length, and its C.
 pub fn taken(frame: &[u8]) -> TakenFacts
     ensures { λ r. ⌜ r ≡ takenAnswer (now (frame .entry)) ⌝ }
 {

@@ -185,6 +185,8 @@ module _ (l w a : ℕ) (f : List ℕ) (p : Passes f) where
           addr-low = omega (arith, q .bit1, q .bit2);
           addr-high = omega (arith, q .bit1, q .bit2);
           known = q .known;
+          command = omega (arith, q .command);
+          poll = q .poll;
           check = ap (λ (n : ℕ). fcsGood n (onward l w a f)) (covered-onward _ refl) ∙ framed-good (onwardHead l w a f) (onwardField l f) refl;
           ident = q .ident;
         };
