@@ -132,6 +132,8 @@ module _ (addr t more seq n : ℕ) (samples : List ℕ) where
             addr-low = omega arith;
             addr-high = omega arith;
             known = refl;
+            command = omega arith;
+            poll = refl;
             check = framed-good (madeHead addr t more seq n) (field samples (sampleBits t) (sampleBits t)) refl;
             ident = refl;
           };

@@ -120,6 +120,8 @@ module _ (bits n wait addr : ℕ) where
           addr-low = omega arith;
           addr-high = omega arith;
           known = refl;
+          command = omega arith;
+          poll = refl;
           check = framed-good (signalHead addr n bits) [] refl;
           ident = refl;
         };
