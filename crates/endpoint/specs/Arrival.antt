@@ -13,7 +13,7 @@ use Rattle.endpoint.specs.declared.Arrived.{Arrived}
 use Rattle.playout.specs.Play.{decision}
 use Rattle.endpoint.specs.Read.{heardOf}
 
--- the decision on the frame's fields: 14, 18, 1 to 5, 19, 6 to 9, 17, 20, or the due time; and the record after
+-- the decision on the frame's fields: 14, 18, 1 to 5 with 24, 19, 6 to 9, 17, 20, or the due time; and the record after
 unfoldable pub frameDecision : Endpoint → List ℕ → ℕ → Decision
 frameDecision e f clock = decision e clock (voiceRefusal f) (stamp f) (sequence f) (moreBit f) (noise f)
 

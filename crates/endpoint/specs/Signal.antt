@@ -7,7 +7,7 @@ use Rattle.frame.specs.Orders.{signalRefusal}
 use Rattle.endpoint.specs.declared.SignalHeard.{SignalHeard}
 use Rattle.playout.specs.Play.{refusal14B, refusal17B, hold}
 
--- 14 (B only), 1 to 5, 19, 7, 8, 9, 17
+-- 14 (B only), 1 to 5 with 24, 19, 7, 8, 9, 17
 unfoldable pub signalOrder : ℕ → List ℕ → ℕ
 signalOrder b f = refusal14B b orElse signalRefusal f orElse refusal17B b (stamp f)
 

@@ -337,11 +337,11 @@ addresses-hold addr octet1 octet2 inside e₁ e₂ =
         taken-is (signal-done bits na wait addr out k inside room),
         address-octets 0 wait addr (framed (signalHead addr na bits) []) (signalBuffer bits na wait addr out) (signal-head bits na wait addr out k inside room) (omega arith) (omega arith) ∙ e,
       ),
-      λ level wait f out low taken cr room.
+      λ level wait f out low taken room.
           let p = node-passes f taken in
           let r = fits-as-it-came level wait addr f out low inside p room in (
             taken-is (forward-done level wait addr f out low inside p r),
-            address-octets level wait addr f (forwardBuffer level wait addr f out) (forward-head level wait addr f out low inside p r) (omega (arith, p .linked .bit1)) (p .linked .bit2) ∙ e,
+            address-octets level wait addr f (forwardBuffer level wait addr f out) (forward-head level wait addr f out low inside p r) (omega (arith, p .linked .bit1, p .linked .command)) (p .linked .bit2) ∙ e,
           ),
     )
 

@@ -1,5 +1,5 @@
 -- Document 01, "Examples (P: proved)": the examples marked P as one table. A row speaks of what the public calls promise, and holds for whatever it leaves open.
-use Prim.Native.Nat.{ℕ, _+_, _-_, _*_, _/_, _%_, _≤_}
+use Prim.Native.Nat.{ℕ, _+_, _-_, _*_, _≤_}
 use mathlib.Core.Path.{_≡_}
 use mathlib.Core.Bool.{true, false}
 use mathlib.Core.List.{List, [], _∷_, _++_}
@@ -160,7 +160,6 @@ holds (packs coding samples octet9 octet25) =
     → (sendAnswer sseq step coding noise (thenZeros samples) level wait addr out .refusal ≡ 0)
     × (octet 9 (sendBuffer sseq step coding noise (thenZeros samples) level wait addr out) ≡ octet9)
     × (octet 25 (sendBuffer sseq step coding noise (thenZeros samples) level wait addr out) ≡ octet25)
--- a node passes the C/R bit on: here it came as 0
 holds (addresses addr octet1 octet2) =
     ((sseq : ℕ) (step : Step) (coding noise : ℕ) (samples : List ℕ) (level wait : ℕ) (out : List ℕ)
     → LegalSend sseq step noise level → LegalVoice coding samples → frameLength coding 0 ≤ length out
@@ -168,7 +167,7 @@ holds (addresses addr octet1 octet2) =
     × (take 2 (sendBuffer sseq step coding noise samples level wait addr out) ≡ octet1 ∷ octet2 ∷ []))
     × ((bits na wait : ℕ) (out : List ℕ) → LegalSignal bits na → 10 ≤ length out
     → (signalAnswer bits na wait addr out .refusal ≡ 0) × (take 2 (signalBuffer bits na wait addr out) ≡ octet1 ∷ octet2 ∷ []))
-    × ((level wait : ℕ) (f out : List ℕ) → level ≤ 3 → takenAnswer f .refusal ≡ 0 → octet 1 f / 2 % 2 ≡ 0 → length f ≤ length out
+    × ((level wait : ℕ) (f out : List ℕ) → level ≤ 3 → takenAnswer f .refusal ≡ 0 → length f ≤ length out
     → (forwardAnswer level wait addr f out .refusal ≡ 0) × (take 2 (forwardBuffer level wait addr f out) ≡ octet1 ∷ octet2 ∷ []))
 holds (noAddress addr) =
     ((sseq : ℕ) (step : Step) (coding noise : ℕ) (samples : List ℕ) (level wait : ℕ) (out : List ℕ)

@@ -66,7 +66,7 @@ module _ (f : List ℕ) (form : ℕ) (form-is : form ≡ formRefusal f) where
       past-form (refusal19 call f orElse n) r z
       (orElse-pass (sumRefusal f orElse refusal19 call f) n first r (in-order (sumRefusal f) (refusal19 call f) sum other first p q e) s h ∙ sym (orElse-assoc (sumRefusal f) (refusal19 call f) n))
 
--- 1 to 5, with 24
+-- 1 to 5 with 24
 pub record Linked (f : List ℕ) : Type 0 where
   pub long : 10 ≤ length f
   pub short : length f ≤ 490
@@ -87,7 +87,7 @@ pub record LaidOut (f : List ℕ) : Type 0 where
   pub size : length f ≡ legalLength f
   pub stamped : stamp f ≤ 200
 
--- what a node takes: 1 to 9, with 24
+-- what a node takes: 1 to 9 with 24
 pub record Passes (f : List ℕ) : Type 0 where
   pub linked : Linked f
   pub coded : (isVoice f && reserved (coding f)) ≡ false

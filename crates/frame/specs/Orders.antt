@@ -54,7 +54,7 @@ refusal9 f = refuse (ltb 200 (stamp f)) 9
 abbrev pub refusal19 : Bool → List ℕ → ℕ
 refusal19 voiceCall f = refuse (cond voiceCall (not (isVoice f)) (isVoice f)) 19
 
--- 1 to 5, with 24 after 3
+-- 1 to 5 with 24, which comes after 3
 unfoldable pub linkRefusal : List ℕ → ℕ
 linkRefusal f = refusal1 (length f) orElse refusal2 f orElse refusal3 f orElse refusal24 f orElse refusal4 f orElse refusal5 f
 
@@ -62,14 +62,14 @@ linkRefusal f = refusal1 (length f) orElse refusal2 f orElse refusal3 f orElse r
 unfoldable pub layoutRefusal : List ℕ → ℕ
 layoutRefusal f = refusal7 f orElse refusal8 f orElse refusal9 f
 
--- a node: the link's numbers, then 6 (voice only), 7, 8, 9
+-- a node: 1 to 5 with 24, then 6 (voice only), 7, 8, 9
 unfoldable pub takenRefusal : List ℕ → ℕ
 takenRefusal f = linkRefusal f orElse refusal6 f orElse layoutRefusal f
 
--- voice reader: the link's numbers, 19, 6 to 9
+-- voice reader: 1 to 5 with 24, 19, 6 to 9
 unfoldable pub voiceRefusal : List ℕ → ℕ
 voiceRefusal f = linkRefusal f orElse refusal19 true f orElse refusal6 f orElse layoutRefusal f
 
--- signalling reader: the link's numbers, 19, 7, 8, 9
+-- signalling reader: 1 to 5 with 24, 19, 7, 8, 9
 unfoldable pub signalRefusal : List ℕ → ℕ
 signalRefusal f = linkRefusal f orElse refusal19 false f orElse layoutRefusal f

@@ -9,7 +9,7 @@ use Rattle.onward.specs.Onward.{onward}
 use Rattle.onward.specs.Sent.{sentAnswer, sentBuffer}
 use Rattle.onward.specs.declared.Sent.{Sent}
 
--- 10, 15, 1 to 5, then 6 (voice only), 7, 8, 9, 16
+-- 10, 15, 1 to 5 with 24, then 6 (voice only), 7, 8, 9, 16
 unfoldable pub forwardRefusal : ℕ → ℕ → ℕ → List ℕ → ℕ → ℕ
 forwardRefusal level wait addr f room =
     refusal10 level orElse refusal15 addr orElse takenRefusal f orElse refusal16 room (length (onward level wait addr f))

@@ -18,7 +18,7 @@ stampAfter old wait = min 200 (old + wait)
 unfoldable pub dropped : ℕ → List ℕ → ℕ
 dropped level f = min (fieldC f) level
 
--- octets 1 to 8: the outgoing address, C less the blocks dropped, the new stamp; every other bit as it came
+-- octets 1 to 8: the outgoing address, C less the blocks dropped, the new stamp; every other bit as it came (C/R and poll are 0 in a frame that 24 does not refuse)
 unfoldable pub onwardHead : ℕ → ℕ → ℕ → List ℕ → List ℕ
 onwardHead level wait addr f =
     (addr / 128 * 4 + octet 1 f % 4)

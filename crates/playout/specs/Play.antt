@@ -63,7 +63,7 @@ refusal17 e clock stamp seq = refuse (stampLate (e .buildout) stamp || inTurn e 
 abbrev pub refusal20 : Endpoint → ℕ → ℕ → ℕ → ℕ
 refusal20 e clock stamp seq = refuse (ltb (clock + 439) (dueAt e clock stamp seq)) 20
 
--- arrival: 14, 18, what the frame itself gives (1 to 5, 19, 6 to 9), 17, 20
+-- arrival: 14, 18, what the frame itself gives (1 to 5 with 24, 19, 6 to 9), 17, 20
 unfoldable pub playRefusal : Endpoint → ℕ → ℕ → ℕ → ℕ → ℕ
 playRefusal e clock given stamp seq =
     refusal14 e orElse refusal18 e clock orElse given orElse refusal17 e clock stamp seq orElse refusal20 e clock stamp seq
