@@ -1,6 +1,6 @@
-//! Document 01, amended by request A2 of document 02, in plain Rust. It is written from the documents
-//! alone, as the yardstick of the proved library: what the library answers is right if this answers the
-//! same, and its speed is measured against this.
+//! Document 01, amended by requests A2 and A5 of document 02, in plain Rust. It is written from the
+//! documents alone, as the yardstick of the proved library: what the library answers is right if this
+//! answers the same, and its speed is measured against this.
 
 use std::ops::RangeInclusive;
 
@@ -13,8 +13,9 @@ pub(crate) const FRAME_SIZES: RangeInclusive<usize> = 10..=490;
 const ADDRESSES: RangeInclusive<u16> = 128..=8063;
 const VOICE: u8 = 239;
 const SIGNALLING: u8 = 3;
-const POLL: u8 = 0x10;
+/// Of octet 1, and of octet 3: a writer sets both to 0, and a frame that has either set is refused (A5).
 const COMMAND_RESPONSE: u8 = 0x02;
+const POLL: u8 = 0x10;
 const PROTOCOL: u8 = 68;
 const MORE: u8 = 0x80;
 
@@ -27,7 +28,7 @@ const PACKET_MS: u64 = 16;
 /// A frame is due at most this long after the clock, so `end` is at most 16 ms more.
 const AHEAD_MAX: u64 = 439;
 
-/// The refusal numbers of document 01, and 21 to 23 of document 02.
+/// The refusal numbers of document 01, and 21 to 24 of document 02.
 #[derive(Clone, Copy, Debug, PartialEq, Eq)]
 #[repr(u8)]
 pub enum Refusal {
@@ -54,6 +55,7 @@ pub enum Refusal {
     NotOffered = 21,
     PartOctet = 22,
     Abort = 23,
+    CommandOrPoll = 24,
 }
 
 use Refusal::*;
@@ -200,7 +202,8 @@ fn noise_of(frame: &[u8]) -> u8 {
     frame[7] & FOUR_BITS
 }
 
-/// Refusals 1 to 5: what every reader asks of a frame of either kind.
+/// Refusals 1, 2, 3, 24, 4 and 5: what a node and every reader ask of a frame of either kind. 3 leaves the
+/// poll bit aside; 24 comes before any check is summed.
 fn link_kind(frame: &[u8]) -> Result<Kind, Refusal> {
     refuse_if(!FRAME_SIZES.contains(&frame.len()), FrameSize)?;
     let extension_bits = (frame[0] & 1, frame[1] & 1);
@@ -211,6 +214,7 @@ fn link_kind(frame: &[u8]) -> Result<Kind, Refusal> {
         SIGNALLING => (Kind::Signalling, covered),
         _ => return Err(Control),
     };
+    refuse_if(frame[0] & COMMAND_RESPONSE != 0 || frame[2] & POLL != 0, CommandOrPoll)?;
     refuse_if(check_sequence(covered).to_le_bytes() != check, Check)?;
     refuse_if(frame[3] != PROTOCOL, Protocol)?;
     Ok(kind)
@@ -385,6 +389,7 @@ pub fn signal_write(bits: u8, na: u8, departure: &Departure, out: &mut [u8]) -> 
     Ok(frame.len())
 }
 
+/// Reserved bits, and the more bit and sequence of a signalling frame, leave as they came.
 pub fn forward(frame: &[u8], level: u8, departure: &Departure, out: &mut [u8]) -> Result<usize, Refusal> {
     refuse_if(level > LEVEL_MAX, Level)?;
     departure.may_leave()?;
@@ -395,9 +400,7 @@ pub fn forward(frame: &[u8], level: u8, departure: &Departure, out: &mut [u8]) -
 
     let kept = length - CHECK;
     out[..kept].copy_from_slice(&frame[..kept]);
-    let [upper, lower] = departure.address_octets();
-    out[0] = upper | frame[0] & COMMAND_RESPONSE;
-    out[1] = lower;
+    out[..2].copy_from_slice(&departure.address_octets());
     out[4] -= dropped;
     out[5] = departure.stamp(stamp_of(frame));
     seal(out);
@@ -699,6 +702,8 @@ mod tests {
             (changed(4, 68, 491), FrameSize),
             (changed(1, 5, 26), Address),
             (changed(3, 7, 26), Control),
+            (changed(1, 4 | COMMAND_RESPONSE, 26), CommandOrPoll),
+            (changed(3, VOICE | POLL, 26), CommandOrPoll),
             (wrong_check, Check),
             (changed(4, 67, 26), Protocol),
             (changed(3, 3, 10), OtherKind),
@@ -708,6 +713,82 @@ mod tests {
             (changed(6, 201, 26), Stamp),
         ] {
             assert_eq!(refused(TALKING, &frame, 1020), refusal);
+        }
+    }
+
+    fn signalling_frame() -> Vec<u8> {
+        let mut out = vec![0; 10];
+        signal_write(10, 1, &waited(24), &mut out).unwrap();
+        out
+    }
+
+    #[test]
+    fn command_and_poll_bits_are_judged_after_3_and_before_4() {
+        let refusals = |frame: &[u8]| {
+            [
+                pass(frame, 0, AT_ONCE).unwrap_err(),
+                read(frame).unwrap_err(),
+                arrive(&mut TALKING.clone(), frame, 1020).unwrap_err(),
+                signal_read(100, frame).unwrap_err(),
+                link(frame).unwrap_err(),
+                taken(frame).unwrap_err(),
+            ]
+        };
+        for mut frame in [voice_frame(2, 24), signalling_frame()] {
+            assert!(taken(&frame).is_ok());
+            frame[0] |= COMMAND_RESPONSE;
+            seal(&mut frame);
+            assert_eq!(refusals(&frame), [CommandOrPoll; 6]);
+            frame[2] |= POLL;
+            seal(&mut frame);
+            assert_eq!(refusals(&frame), [CommandOrPoll; 6]);
+            frame[0] &= !COMMAND_RESPONSE;
+            seal(&mut frame);
+            assert_eq!(refusals(&frame), [CommandOrPoll; 6]);
+
+            // What a call asks before it looks at the frame.
+            assert_eq!(pass(&frame, 4, AT_ONCE), Err(Level));
+            assert_eq!(pass(&frame, 0, Departure { address: 127, ..AT_ONCE }), Err(Outgoing));
+            assert_eq!(arrive(&mut Endpoint::fresh(200), &frame, 1020), Err(Record));
+            assert_eq!(arrive(&mut TALKING.clone(), &frame, 1009), Err(Clock));
+            assert_eq!(signal_read(200, &frame), Err(Record));
+
+            // Octet 4 and the check wrong besides, then octet 3, then octet 2, then the length.
+            frame[3] = 67;
+            assert_eq!(refusals(&frame), [CommandOrPoll; 6]);
+            frame[2] ^= 4;
+            assert_eq!(refusals(&frame), [Control; 6]);
+            frame[1] ^= 1;
+            assert_eq!(refusals(&frame), [Address; 6]);
+            frame.truncate(9);
+            assert_eq!(refusals(&frame), [FrameSize; 6]);
+        }
+    }
+
+    #[test]
+    fn other_bits_that_a_writer_sets_to_0_are_ignored_and_passed_on() {
+        let with = |frame: &[u8], bits: [u8; 8]| {
+            let mut frame = frame.to_vec();
+            frame.iter_mut().zip(bits).for_each(|(octet, bits)| *octet |= bits);
+            seal(&mut frame);
+            frame
+        };
+        // Reserved bits; of signalling the more bit and the sequence too.
+        for (frame, bits) in [
+            (voice_frame(2, 24), [0, 0, 0, 0, 0xCC, 0, 0x60, 0]),
+            (signalling_frame(), [0, 0, 0, 0, 0xCC, 0, 0x7E | MORE, 0xF0]),
+        ] {
+            let set = with(&frame, bits);
+            let arrived = |frame: &[u8]| {
+                let mut endpoint = TALKING;
+                (arrive(&mut endpoint, frame, 1020), endpoint)
+            };
+            assert_eq!(read(&set), read(&frame));
+            assert_eq!(arrived(&set), arrived(&frame));
+            assert_eq!(signal_read(100, &set), signal_read(100, &frame));
+            assert_eq!((link(&set), taken(&set)), (link(&frame), taken(&frame)));
+            let departure = Departure { address: 8063, ..waited(7) };
+            assert_eq!(pass(&set, 1, departure).unwrap(), with(&pass(&frame, 1, departure).unwrap(), bits));
         }
     }
 
