@@ -1,14 +1,14 @@
 //! What the calls are tried with: right in all, wrong in one thing, or wrong in several, with the
 //! values at and just past each limit oftener than the rest.
 
-use pelgrant_host::document::{check_sequence, Coding};
+use pelgrant_host::document::{check_sequence, Coding, Kind};
 use pelgrant_host::random::Random;
 
 pub const CLOCK_MAX: u64 = 1 << 62;
 pub const LEGAL_CODINGS: [u8; 17] = [0, 1, 2, 3, 4, 5, 6, 7, 8, 9, 10, 11, 12, 13, 20, 21, 24];
 
 /// The greatest of the calls' own refusals.
-const LAST: usize = 23;
+const LAST: usize = 24;
 /// The refusals that only the flat form has, counted apart from those.
 pub const FLAT_13: usize = LAST + 1;
 pub const FLAT_14: usize = LAST + 2;
@@ -49,8 +49,22 @@ impl Faults {
 
 const VOICE: u8 = 239;
 const SIGNALLING: u8 = 3;
+const FRAME_FAULTS: [usize; 10] = [1, 2, 3, 24, 4, 5, 6, 7, 8, 9];
+
+/// C/R, of octet 1, and the poll bit, of octet 3.
+const COMMAND_RESPONSE: u8 = 2;
 const POLL: u8 = 16;
-const FRAME_FAULTS: [usize; 9] = [1, 2, 3, 4, 5, 6, 7, 8, 9];
+/// What octets 1 and 3 have set where a frame is to be refused with 24.
+const SET_BITS: [[u8; 2]; 3] = [[COMMAND_RESPONSE, 0], [0, POLL], [COMMAND_RESPONSE, POLL]];
+
+/// The other bits that a writer sets to 0, by octet: a reader ignores them, and a node passes them on.
+fn ignored_bits(kind: Kind) -> [u8; 8] {
+    match kind {
+        Kind::Voice => [0, 0, 0, 0, 0xCC, 0, 0x60, 0],
+        // The more bit and the sequence are among them.
+        Kind::Signalling => [0, 0, 0, 0, 0xCC, 0, 0xFE, 0xF0],
+    }
+}
 
 /// A frame before its check is worked out.
 pub struct Draft {
@@ -81,27 +95,24 @@ impl Draft {
         let sequence = if random.one_in(3) { 0 } else { random.octet_below(16) };
         let octets_7_and_8 = [more | number, sequence << 4 | random.octet_below(16)];
         let length = 16 * blocks.max(0) as usize + 10;
-        let mut draft = Draft::either(random, faults, VOICE, at_first << 4 | left, octets_7_and_8, length);
-        if random.one_in(2) {
-            draft.head[6] |= random.octet() & 0x60;
-        }
-        draft
+        Draft::either(random, faults, Kind::Voice, at_first << 4 | left, octets_7_and_8, length)
     }
 
     pub fn signalling(random: &mut Random, faults: Faults) -> Draft {
         let dropping =
             if faults.has(7) { another(random, |random| random.octet() & 0x33, |&dropping| dropping != 0) } else { 0 };
-        let mut octets_7_and_8 = [random.octet() & 1, random.octet() & 15];
-        if random.one_in(2) {
-            octets_7_and_8 = [random.octet(), random.octet()];
-        }
-        Draft::either(random, faults, SIGNALLING, dropping, octets_7_and_8, 10)
+        let octets_7_and_8 = [random.octet() & 1, random.octet() & 15];
+        Draft::either(random, faults, Kind::Signalling, dropping, octets_7_and_8, 10)
     }
 
     fn either(
-        random: &mut Random, faults: Faults, control: u8, dropping: u8, octets_7_and_8: [u8; 2], legal_length: usize,
+        random: &mut Random, faults: Faults, kind: Kind, dropping: u8, octets_7_and_8: [u8; 2], legal_length: usize,
     ) -> Draft {
         let [upper, lower] = address_octets(random, faults.has(2));
+        let control = match kind {
+            Kind::Voice => VOICE,
+            Kind::Signalling => SIGNALLING,
+        };
         let control = if faults.has(3) {
             another(random, |random| near(random, control), |other| !matches!(other & !POLL, VOICE | SIGNALLING))
         } else {
@@ -119,11 +130,13 @@ impl Draft {
             octets_7_and_8[0],
             octets_7_and_8[1],
         ];
-        // The bits that a writer sets to 0 and a reader ignores.
         if random.one_in(2) {
-            head[0] |= random.octet() & 0x02;
-            head[2] |= random.octet() & POLL;
-            head[4] |= random.octet() & 0xCC;
+            head.iter_mut().zip(ignored_bits(kind)).for_each(|(octet, ignored)| *octet |= random.octet() & ignored);
+        }
+        if faults.has(24) {
+            let [of_octet_1, of_octet_3] = random.pick(&SET_BITS);
+            head[0] |= of_octet_1;
+            head[2] |= of_octet_3;
         }
         let length = if faults.has(1) {
             impossible_length(random)
@@ -163,7 +176,7 @@ impl Draft {
 
 /// Any frame or rubbish: right, with faults, damaged by a bit, cut, prolonged or random.
 pub fn frame(random: &mut Random) -> Vec<u8> {
-    let kind = random.below(10);
+    let kind = random.below(11);
     let faults = match kind {
         0..=4 => Faults::among(random, &FRAME_FAULTS),
         _ => Faults::NONE,
