@@ -23,16 +23,17 @@ pub struct Faults(u32);
 impl Faults {
     pub const NONE: Faults = Faults(0);
 
+    pub fn of<'a>(numbers: impl IntoIterator<Item = &'a usize>) -> Faults {
+        Faults(numbers.into_iter().fold(0, |set, number| set | 1 << number))
+    }
+
     /// Half of all inputs are right; of the others half have one fault, so that each refusal is
     /// reached, and half have several, so that their order is tried.
     pub fn among(random: &mut Random, numbers: &[usize]) -> Faults {
         match random.below(4) {
             0 | 1 => Faults::NONE,
             2 => Faults(1 << random.pick(numbers)),
-            _ => {
-                let some = numbers.iter().filter(|_| random.one_in(4));
-                Faults(some.fold(0, |set, number| set | 1 << number))
-            }
+            _ => Faults::of(numbers.iter().filter(|_| random.one_in(4))),
         }
     }
 
@@ -55,10 +56,16 @@ const FRAME_FAULTS: [usize; 10] = [1, 2, 3, 24, 4, 5, 6, 7, 8, 9];
 const COMMAND_RESPONSE: u8 = 2;
 const POLL: u8 = 16;
 /// What octets 1 and 3 have set where a frame is to be refused with 24.
-const SET_BITS: [[u8; 2]; 3] = [[COMMAND_RESPONSE, 0], [0, POLL], [COMMAND_RESPONSE, POLL]];
+pub const SET_BITS: [(&str, [u8; 2]); 3] =
+    [("C/R", [COMMAND_RESPONSE, 0]), ("poll bit", [0, POLL]), ("both", [COMMAND_RESPONSE, POLL])];
+
+/// Which of those two bits a head has set.
+pub fn set_bits(head: &[u8]) -> [u8; 2] {
+    [head[0] & COMMAND_RESPONSE, head[2] & POLL]
+}
 
 /// The other bits that a writer sets to 0, by octet: a reader ignores them, and a node passes them on.
-fn ignored_bits(kind: Kind) -> [u8; 8] {
+pub fn ignored_bits(kind: Kind) -> [u8; 8] {
     match kind {
         Kind::Voice => [0, 0, 0, 0, 0xCC, 0, 0x60, 0],
         // The more bit and the sequence are among them.
@@ -74,6 +81,13 @@ pub struct Draft {
 }
 
 impl Draft {
+    pub fn of(random: &mut Random, kind: Kind, faults: Faults) -> Draft {
+        match kind {
+            Kind::Voice => Draft::voice(random, faults),
+            Kind::Signalling => Draft::signalling(random, faults),
+        }
+    }
+
     pub fn voice(random: &mut Random, faults: Faults) -> Draft {
         let number = match faults.has(6) {
             true => another(random, |random| random.octet_below(32), |number| Coding::of(*number).is_none()),
@@ -134,7 +148,7 @@ impl Draft {
             head.iter_mut().zip(ignored_bits(kind)).for_each(|(octet, ignored)| *octet |= random.octet() & ignored);
         }
         if faults.has(24) {
-            let [of_octet_1, of_octet_3] = random.pick(&SET_BITS);
+            let (_, [of_octet_1, of_octet_3]) = random.pick(&SET_BITS);
             head[0] |= of_octet_1;
             head[2] |= of_octet_3;
         }
@@ -207,7 +221,7 @@ pub fn frame(random: &mut Random) -> Vec<u8> {
 }
 
 /// Draws until what is drawn will do.
-fn another<T>(random: &mut Random, draw: impl Fn(&mut Random) -> T, will_do: impl Fn(&T) -> bool) -> T {
+pub fn another<T>(random: &mut Random, draw: impl Fn(&mut Random) -> T, will_do: impl Fn(&T) -> bool) -> T {
     loop {
         let drawn = draw(random);
         if will_do(&drawn) {

@@ -88,6 +88,20 @@ pub struct Lent {
 }
 
 impl Lent {
+    /// A frame, and what any call that reads one is lent besides: a fresh record with the greatest build-out, and
+    /// room for every answer.
+    pub fn to_read(random: &mut Random, frame: &[u8]) -> Lent {
+        Lent {
+            record: numbers(random, &[199, 0, 0, 0, 0, 0]),
+            after: slots(random, 6),
+            frame: octets(random, frame),
+            samples: buffer(random, 128),
+            out: buffer(random, 490),
+            answer: slots(random, 4),
+            ..Lent::default()
+        }
+    }
+
     /// The first thing that is not the same.
     pub fn difference(&self, other: &Lent) -> Option<&'static str> {
         let bits = |lent: &Lent| lent.level.whole.iter().map(|level| level.to_bits()).collect::<Vec<u64>>();

@@ -2,10 +2,11 @@
 //! all that comes back: the number, the answers, and every octet lent and around it.
 //!
 //! `differential [INPUTS [SEED]]`: INPUTS for each call, more for the events of a watch, fewer for the
-//! calls of a line, and a tenth as many chains.
+//! calls of a line, a tenth as many chains, and fewer again for each bit that a writer sets to 0.
 
 mod arrivals;
 mod cases;
+mod head_bits;
 mod inputs;
 mod lent;
 mod lines;
@@ -14,6 +15,7 @@ mod tally;
 
 use arrivals::Arrivals;
 use cases::Cases;
+use head_bits::{HeadBits, Ignored, SetBits};
 use inputs::{Draft, Faults, FLAT_13, FLAT_14, FLAT_16, FLAT_21};
 use lent::Lent;
 use lines::Reading;
@@ -41,6 +43,7 @@ struct Run {
     /// The record that the last arrival left, so that whole bursts are played and not only single frames.
     carried: [u64; 6],
     arrivals: Arrivals,
+    head_bits: HeadBits,
     /// The watch that the last event left.
     watch: [u64; 9],
     cases: Cases,
@@ -69,6 +72,9 @@ impl Run {
         let right_number = run(&Document, &mut right);
         let found_number = run(&Card, &mut found);
         self.tally.count(call, flat, right_number);
+        if found_number == 0 {
+            self.head_bits.wrote(call, found.out.part());
+        }
         let difference = right.difference(&found);
         if right_number != found_number || difference.is_some() {
             self.differs(|| {
@@ -417,6 +423,64 @@ impl Run {
         }
     }
 
+    /// Frames with C/R or the poll bit set, alone and with other faults, by every call that reads one. Both sides
+    /// are held to the number that the table has.
+    fn set_bits(&mut self) {
+        for (row, case) in SetBits::all().into_iter().enumerate() {
+            let frame = case.frame(&mut self.random);
+            for call in head_bits::READERS {
+                let before = self.different;
+                let hop = Hop::draw(&mut self.random, true);
+                let lent = Lent::to_read(&mut self.random, &frame);
+                let read = |calls: &dyn Calls, lent: &mut Lent| hop.read_by(calls, call, lent);
+                let (number, _) = self.compare(call, None, &hop.numbers(), lent, read);
+                if number != case.number {
+                    self.differs(|| {
+                        println!("different: {}, {}", call.name(), case.name);
+                        println!("  the independent implementation answers {number}\n  frame {frame:?}");
+                    });
+                }
+                if self.different == before {
+                    self.head_bits.refused(row, call);
+                }
+            }
+        }
+    }
+
+    /// Bits that are ignored: the card answers two frames that differ in them alike, and sends them on with the
+    /// same difference.
+    fn ignored_bits(&mut self) {
+        for (row, case) in Ignored::all().into_iter().enumerate() {
+            let pair = case.pair(&mut self.random);
+            for call in case.readers() {
+                let hop = Hop::draw(&mut self.random, true);
+                let mut one = Lent::to_read(&mut self.random, &pair.one);
+                let mut other = Lent { frame: lent::octets(&mut self.random, &pair.other), ..one.clone() };
+                let numbers = [&mut one, &mut other].map(|lent| hop.read_by(&Card, call, lent));
+                if call == Call::Forward && numbers == [0, 0] {
+                    [&one, &other].iter().for_each(|lent| self.head_bits.wrote(call, lent.out.part()));
+                    let length = one.answer.part()[0] as usize;
+                    pair.change_sent(&mut one.out.part_mut()[..length]);
+                }
+                // All that is lent is to be the same but the frame that came.
+                one.frame = other.frame.clone();
+                let difference = one.difference(&other);
+                if numbers == [0, 0] && difference.is_none() {
+                    self.head_bits.alike(row, call);
+                } else {
+                    self.differs(|| {
+                        println!("different: {}, frames that differ in bits that are ignored", call.name());
+                        println!("  answered {numbers:?}, first to differ: {difference:?}");
+                        println!(
+                            "  frames {:?}\n  and {:?}\n  right {one:?}\n  the card {other:?}",
+                            pair.one, pair.other
+                        );
+                    });
+                }
+            }
+        }
+    }
+
     fn one_input(&mut self, call: Call) {
         match call {
             Call::Send => self.send(),
@@ -564,6 +628,8 @@ impl Run {
         .unwrap_or_default();
         let chained = nodes.iter().try_fold(first.clone(), |frame, node| node.forward(&frame));
         let single = one_node.forward(&first);
+        self.head_bits.wrote(Call::Send, &first);
+        single.iter().chain(&chained).for_each(|sent| self.head_bits.wrote(Call::Forward, sent));
 
         let dropped = coding.droppable.min(origin.level + levels);
         let kept: Vec<u8> = samples.iter().map(|sample| sample >> dropped << dropped).collect();
@@ -635,6 +701,27 @@ impl Hop {
         let Hop { level, from, to, address } = self;
         written(|out, length| Card.forward(frame, level, from, to, address, out, length))
     }
+
+    fn numbers(self) -> [u64; 4] {
+        [self.level.into(), self.from.into(), self.to.into(), self.address.into()]
+    }
+
+    /// Hands the frame that is lent to a call that reads one: to a node on this hop, or to the endpoint at clock 0.
+    fn read_by(self, calls: &dyn Calls, call: Call, lent: &mut Lent) -> u8 {
+        let Hop { level, from, to, address } = self;
+        let Lent { record, after, frame, samples, out, answer, .. } = lent;
+        let (frame, answer, samples) = (frame.part(), answer.part_mut(), samples.part_mut());
+        match call {
+            Call::Forward => calls.forward(frame, level, from, to, address, out.part_mut(), answer),
+            Call::Read => calls.read(frame, answer, samples),
+            Call::Arrive => calls.arrive(record.part_mut(), frame, 0, answer, samples),
+            Call::ArriveValue => calls.arrive_value(record.part(), frame, 0, after.part_mut(), answer, samples),
+            Call::SignalRead => calls.signal_read(record.part()[0] as u8, frame, answer),
+            Call::Link => calls.link(frame, answer),
+            Call::Taken => calls.taken(frame, answer),
+            _ => unreachable!("{} reads no frame", call.name()),
+        }
+    }
 }
 
 /// The frame that a call writes, unless it is refused.
@@ -661,6 +748,7 @@ fn main() -> ExitCode {
         different: 0,
         carried: [100, 0, 0, 0, 0, 0],
         arrivals: Arrivals::new(),
+        head_bits: HeadBits::new(),
         watch: [16, 10_000, 25_000, 0, 0, 0, 0, 0, 0],
         cases: Cases::new(),
         begun: (Vec::new(), 0),
@@ -677,6 +765,8 @@ fn main() -> ExitCode {
         };
         (0..times).for_each(|_| run.one_input(call));
     }
+    (0..inputs.div_ceil(5000)).for_each(|_| run.set_bits());
+    (0..inputs.div_ceil(1000)).for_each(|_| run.ignored_bits());
     (0..inputs / 10).for_each(|_| run.chain());
     (0..inputs / 50).for_each(|_| run.read_back());
     (0..inputs / 50).for_each(|_| run.read_on());
@@ -684,7 +774,8 @@ fn main() -> ExitCode {
     println!("Seed {seed}; . where there can be none\n");
     let calls = ("Inputs by call and refusal", &run.tally.table);
     let mut amiss = Vec::new();
-    let others = run.arrivals.tables().into_iter().chain(run.cases.tables()).chain(run.line_cases.tables());
+    let others = run.arrivals.tables().into_iter().chain(run.head_bits.tables());
+    let others = others.chain(run.cases.tables()).chain(run.line_cases.tables());
     for (title, table) in std::iter::once(calls).chain(others) {
         println!("{title}");
         table.print();
@@ -699,7 +790,7 @@ fn main() -> ExitCode {
         println!("amiss: {} cells of the tables", amiss.len());
     }
     let failed = run.different + amiss.len() as u64;
-    let compared = run.tally.total() + run.chains + run.read_back + run.read_on;
+    let compared = run.tally.total() + run.head_bits.pairs() + run.chains + run.read_back + run.read_on;
     println!("host: {compared} compared, {failed} different");
     if failed == 0 {
         ExitCode::SUCCESS
