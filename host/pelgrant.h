@@ -1,5 +1,5 @@
-/* The calls of the card, for a host in C. Document 01 is the law of what they do, as request A2 of
- * document 02 amends it; for the two calls of the signalling watch it is request A1, for the two of a
+/* The calls of the card, for a host in C. Document 01 is the law of what they do, as requests A2 and A5
+ * of document 02 amend it; for the two calls of the signalling watch it is request A1, for the two of a
  * line of bits request A4.
  *
  * Every call takes any octets and any numbers, comes to an end and gives a refusal number of
@@ -25,6 +25,11 @@
  * Flags and zero bits are the work of the two calls of a line alone; to all the others a frame comes
  * without them. A wait is lent as two readings of a 32-bit millisecond clock, from and to, which may roll
  * over in between.
+ *
+ * C/R (bit 2 of octet 1) and the poll bit (bit 5 of octet 3) are 0 in every frame that the origin or a
+ * node writes. A frame that comes with either set is refused with 24, after 3 and before its check is looked
+ * at; only the calls of a line, which look into no frame, carry it as any other. Reserved bits, and of a
+ * signalling frame the more bit and the sequence, are ignored, and a node sends them on as they came.
  *
  * A line is lent octets and a count of bits, lowest bit of each octet first: bit i of the line is bit
  * i % 8 of octet i / 8. A flag is a zero, six ones and a zero.
@@ -108,7 +113,7 @@ uint8_t pelgrant_signal_write(uint8_t bits, uint8_t na, uint32_t from, uint32_t 
 /* A node sends a frame of either kind on: blocks dropped, stamp and address written, check made afresh.
  * Lent: the frame; level, 0 to 3; the wait; the outgoing address; out, for the frame sent on.
  * Back: answer[0] the length of the frame sent on; that frame in out.
- * Refusals: 16 (answer), 10, 15, 1, 2, 3, 4, 5, 6 (voice only), 7, 8, 9, 16.
+ * Refusals: 16 (answer), 10, 15, 1, 2, 3, 24, 4, 5, 6 (voice only), 7, 8, 9, 16.
  * Untouched: frame; the rest of out; where refused, all of it. */
 uint8_t pelgrant_forward(const uint8_t *frame, size_t frame_len, uint8_t level, uint32_t from, uint32_t to,
     uint16_t address, uint8_t *out, size_t out_len, uint64_t *answer, size_t answer_len);
@@ -116,7 +121,7 @@ uint8_t pelgrant_forward(const uint8_t *frame, size_t frame_len, uint8_t level, 
 /* Reads a voice frame without a record or a clock.
  * Lent: the frame.
  * Back: answer[0] the sample bits S, answer[1] the blocks dropped; the first 128 of samples.
- * Refusals: 16 (answer below 2 or samples below 128), 1, 2, 3, 4, 5, 19, 6, 7, 8, 9.
+ * Refusals: 16 (answer below 2 or samples below 128), 1, 2, 3, 24, 4, 5, 19, 6, 7, 8, 9.
  * Untouched: frame. */
 uint8_t pelgrant_read(const uint8_t *frame, size_t frame_len, uint64_t *answer, size_t answer_len,
     uint8_t *samples, size_t samples_len);
@@ -134,7 +139,7 @@ uint8_t pelgrant_fresh(uint8_t buildout, uint64_t *record, size_t record_len);
  * Back: answer[0] the time it is due, answer[1] 1 if the decoder is to be reset, else 0, answer[2] the
  *   sample bits S, answer[3] the blocks dropped; the first 128 of samples; the record moved on.
  * Refusals: 16 (answer below 4 or samples below 128), 14 where record_len is not 6, 14, 18,
- *   1, 2, 3, 4, 5, 19, 6, 7, 8, 9, 17, 20.
+ *   1, 2, 3, 24, 4, 5, 19, 6, 7, 8, 9, 17, 20.
  * Untouched: frame; where refused, the record, save that 17 and 20 (late, due too far ahead) store the
  *   frame's more bit in M_LAST and its noise in the last noise: a late stop packet counts as a stop. */
 uint8_t pelgrant_arrive(uint64_t *record, size_t record_len, const uint8_t *frame, size_t frame_len, uint64_t clock,
@@ -152,7 +157,7 @@ uint8_t pelgrant_arrive_value(const uint64_t *record, size_t record_len, const u
 /* Reads a signalling frame.
  * Lent: the build-out, 0 to 199; the frame.
  * Back: answer[0] the bits, A, B, C, D as 8, 4, 2, 1, answer[1] N/A, answer[2] the ms to hold them.
- * Refusals: 16 (answer below 3), 14, 1, 2, 3, 4, 5, 19, 7, 8, 9, 17.
+ * Refusals: 16 (answer below 3), 14, 1, 2, 3, 24, 4, 5, 19, 7, 8, 9, 17.
  * Untouched: frame. */
 uint8_t pelgrant_signal_read(uint8_t buildout, const uint8_t *frame, size_t frame_len,
     uint64_t *answer, size_t answer_len);
@@ -176,7 +181,7 @@ uint8_t pelgrant_noise_level(uint8_t code, uint64_t *answer, size_t answer_len, 
 /* Whose a frame is, judged by its link layer alone.
  * Lent: the frame.
  * Back: answer[0] 1 for voice, 0 for signalling; answer[1] the address.
- * Refusals: 16 (answer below 2), 1, 2, 3, 4, 5.
+ * Refusals: 16 (answer below 2), 1, 2, 3, 24, 4, 5.
  * Untouched: frame. */
 uint8_t pelgrant_link(const uint8_t *frame, size_t frame_len, uint64_t *answer, size_t answer_len);
 
@@ -184,7 +189,7 @@ uint8_t pelgrant_link(const uint8_t *frame, size_t frame_len, uint64_t *answer, 
  * Lent: the frame.
  * Back: answer[0] 1 for voice, 0 for signalling; answer[1] its length; answer[2] C, the blocks that may
  *   still be dropped.
- * Refusals: 16 (answer below 3), 1, 2, 3, 4, 5, 6 (voice only), 7, 8, 9.
+ * Refusals: 16 (answer below 3), 1, 2, 3, 24, 4, 5, 6 (voice only), 7, 8, 9.
  * Untouched: frame. */
 uint8_t pelgrant_taken(const uint8_t *frame, size_t frame_len, uint64_t *answer, size_t answer_len);
 
