@@ -44,6 +44,9 @@ macro_rules! both {
 /// Of 16 states and the default times, just started.
 const WATCH: [u64; 9] = [16, 10_000, 25_000, 0, 0, 0, 0, 0, 0];
 const RECORD: [u64; 6] = [100, 0, 0, 0, 0, 0];
+/// Of octet 1, and of octet 3.
+const COMMAND_RESPONSE: u8 = 2;
+const POLL: u8 = 16;
 
 fn voice(coding: u8) -> Vec<u8> {
     let (mut out, mut answer) = (vec![0; 138], [0]);
@@ -227,12 +230,15 @@ impl Refused {
 
     fn table(&mut self) {
         let (voice, signalling) = (voice(TYPE_S8), signalling());
-        let frames: [(u8, &str, Vec<u8>); 15] = [
+        let polled = changed(&signalling, 2, signalling[2] | POLL, LONGEST);
+        let frames: [(u8, &str, Vec<u8>); 17] = [
             (1, "empty", Vec::new()),
             (1, "rubbish", vec![0x55; 491]),
             (1, "a megabyte", vec![0x55; 1 << 20]),
             (2, "signalling", changed(&signalling, 0, 5, LONGEST)),
             (3, "neither kind", changed(&signalling, 2, 7, LONGEST)),
+            (24, "signalling, poll bit", polled.clone()),
+            (24, "voice, C/R", changed(&voice, 0, voice[0] | COMMAND_RESPONSE, voice.len())),
             (4, "signalling", spoiled(changed(&signalling, 7, 10, LONGEST))),
             (4, "voice", spoiled(voice.clone())),
             (5, "signalling", changed(&signalling, 3, 0, LONGEST)),
@@ -263,7 +269,7 @@ impl Refused {
         }
         for (number, what, frame) in &frames {
             // An endpoint of a voice call tells a signalling frame by its kind alone.
-            let number = if *what == "signalling" && *number > 5 { 19 } else { *number };
+            let number = if *what == "signalling" && (6..=9).contains(number) { 19 } else { *number };
             let works = both!(arrive, number, RECORD, frame, 0, 0);
             self.row(number, "arrive", what, frame, works, endpoint_check(frame));
         }
@@ -281,6 +287,7 @@ impl Refused {
         for (number, what, build_out, frame) in [
             (14, "signalling, B 200", 200, &long),
             (1, "a megabyte", 100, &frames[2].2),
+            (24, "signalling, poll bit", 100, &polled),
             (8, "signalling", 100, &long),
             (17, "signalling, B 6", 6, &signalling),
             (19, "voice", 100, &voice),
@@ -495,7 +502,9 @@ fn main() {
     lines.table();
     println!("\n## Above the marks\n");
     list(
-        &format!("Done, above {DONE_MARK:.2} times the Rust, or {SAMPLES_MARK:.2} times for send, read and the arrivals"),
+        &format!(
+            "Done, above {DONE_MARK:.2} times the Rust, or {SAMPLES_MARK:.2} times for send, read and the arrivals"
+        ),
         &done.above,
     );
     println!();
