@@ -1,7 +1,7 @@
 /* Two bursts of speech from an origin through two nodes to an endpoint, as an operator would want to
  * see them: what each frame weighs on the way, when it is played and what is left of the voice. The
- * stop packet of the second comes late. The signalling of a trunk that dies and comes back. And three
- * frames on a line of bare bits, one of them damaged there. */
+ * stop packet of the second comes late. The signalling of a trunk that dies and comes back, and a frame of
+ * a foreign unit that sets the poll bit. And three frames on a line of bare bits, one of them damaged there. */
 
 #include <stdio.h>
 #include <string.h>
@@ -90,6 +90,25 @@ static int trunk(void)
             (unsigned long long)answer[1], (unsigned long long)answer[2], conditioning[answer[3]]);
     }
     return 0;
+}
+
+/* A signalling frame as a foreign unit sends it, with the poll bit set, and as it should be; the checks of both
+ * are right. The unit waits for a reply that nobody here sends, so neither node nor reader takes its frame. */
+static void foreign_unit(void)
+{
+    static const frame frames[] = {
+        {{4, 3, 19, 68, 0, 24, 0, 10, 49, 115}, 10},
+        {{4, 3, 3, 68, 0, 24, 0, 10, 129, 49}, 10},
+    };
+    printf("\nA signalling frame of a foreign unit\n\npoll bit  at a node  at the reader  bits  N/A  hold\n");
+    for (size_t n = 0; n < sizeof frames / sizeof frames[0]; n++) {
+        frame passing = frames[n];
+        uint64_t answer[3];
+        uint8_t read = pelgrant_signal_read(BUILD_OUT, passing.octets, passing.length, answer, 3);
+        uint8_t sent_on = node(&passing, 0, 0, 0, 300);
+        printf("%8d  %9u  %13u  %4llu  %3llu  %4llu\n", (frames[n].octets[2] >> 4) & 1, sent_on, read,
+            (unsigned long long)answer[0], (unsigned long long)answer[1], (unsigned long long)answer[2]);
+    }
 }
 
 /* A signalling frame, the voice frame and the first again are put on a line behind one another. The voice
@@ -236,5 +255,8 @@ int main(void)
     if (play_without_packet(&line) != 0 || packet(&line, 2000, PACKETS - 1, 140) != 0
         || play_without_packet(&line) != 0)
         return 1;
-    return trunk() != 0 || bare_bits(&line.came) != 0;
+    if (trunk() != 0)
+        return 1;
+    foreign_unit();
+    return bare_bits(&line.came) != 0;
 }
