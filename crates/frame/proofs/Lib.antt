@@ -1,2 +1,3 @@
 pub mod FrameLaws
+pub mod IgnoredLaws
 pub mod OneOutcome

@@ -175,7 +175,10 @@ fn form_refusal(frame: &[u8]) -> u8
     if size != 0 {
         return size;
     }
-    or_else(refusal_2(frame), or_else(refusal_3(frame), refusal_24(frame)))
+    or_else(
+        refusal_2(frame),
+        or_else(refusal_3(frame), refusal_24(frame)),
+    )
 }
 
 // 4 and 5: the check sequence is summed only once the form is right.

@@ -1,0 +1,165 @@
+-- Ignored bits make no difference: a frame and the same frame with those bits changed and its check made afresh have the same fields, and the same numbers refuse them.
+use Prim.Native.Nat.{ℕ, _+_, _-_, _*_, _/_, _%_, _≤_}
+use mathlib.Core.Path.{_≡_, refl, sym, ap, ap₂, _∙_}
+use mathlib.Core.Bool.{Bool, true, false, not, _&&_, cond}
+use mathlib.Core.List.{List}
+use native.Mathlib.Omega.{arith}
+use lib.Dec.{eqb}
+use lib.ListN.{length, take, drop, length-append, length-take, length-drop}
+use lib.Seq.{length-take-le, take-at}
+use Rattle.octets.specs.Octets.{octet}
+use Rattle.refusals.specs.Refusals.{_orElse_, refuse, refusal1}
+use Rattle.fcs.specs.Fcs.{fcsOctets, fcsGood}
+use Rattle.fcs.proofs.SealLaws.{sealed-good}
+use Rattle.coding.specs.Coding.{droppableBits, frameLength, reserved}
+use Rattle.frame.specs.Fields.{isVoice, fieldM, fieldC, stamp, moreBit, coding, sequence, na, signalBits, covered}
+use Rattle.frame.specs.Orders.{refusal2, refusal3, refusal24, refusal4, refusal5, refusal6, refusal7, refusal8, refusal9, refusal19, legalLength, linkRefusal, layoutRefusal, takenRefusal, voiceRefusal, signalRefusal}
+use Rattle.frame.specs.Ignored.{ignoredFrom, withIgnored}
+use Rattle.frame.specs.Calls.{linkAnswer, takenAnswer}
+use Rattle.frame.proofs.FrameLaws.{laid}
+
+-- a field of an octet is what it was, whatever the bits beside it
+m-of : (a m b c : ℕ) → (a * 64 + m % 4 * 16 + b % 4 * 4 + c % 4) / 16 % 4 ≡ m % 4
+m-of a m b c = omega arith
+
+c-of : (a m b c : ℕ) → (a * 64 + m * 16 + b * 4 + c % 4) % 4 ≡ c % 4
+c-of a m b c = omega arith
+
+more-of : (m a k : ℕ) → (m % 2 * 128 + a % 4 * 32 + k % 32) / 128 % 2 ≡ m % 2
+more-of m a k = omega arith
+
+coding-of : (m a k : ℕ) → (m * 128 + a * 32 + k % 32) % 32 ≡ k % 32
+coding-of m a k = omega arith
+
+module _ (g f : List ℕ) where
+  -- octets 1 to 4 and 6 have no such bits: the address, the control octet and the stamp stay
+  pub same-octets : (octet 1 (withIgnored g f) ≡ octet 1 f) × (octet 2 (withIgnored g f) ≡ octet 2 f)
+      × (octet 3 (withIgnored g f) ≡ octet 3 f) × (octet 4 (withIgnored g f) ≡ octet 4 f)
+  unfolding withIgnored ignoredFrom
+  same-octets = (refl, refl, refl, refl)
+
+  pub same-stamp : stamp (withIgnored g f) ≡ stamp f
+  unfolding withIgnored ignoredFrom
+  same-stamp = refl
+
+  same-kind : isVoice (withIgnored g f) ≡ isVoice f
+  same-kind = ap (λ (x : ℕ). eqb (x / 32 * 32 + x % 16) 239) (same-octets .2)
+
+  pub same-m : fieldM (withIgnored g f) ≡ fieldM f
+  unfolding withIgnored ignoredFrom
+  same-m = m-of (octet 5 g / 64 % 4) (octet 5 f / 16) (octet 5 g / 4) (octet 5 f)
+
+  pub same-c : fieldC (withIgnored g f) ≡ fieldC f
+  unfolding withIgnored ignoredFrom
+  same-c = c-of (octet 5 g / 64 % 4) (fieldM f) (octet 5 g / 4 % 4) (octet 5 f)
+
+  -- voice
+  pub same-more : isVoice f ≡ true → moreBit (withIgnored g f) ≡ moreBit f
+  unfolding withIgnored ignoredFrom
+  same-more v = rw v (more-of (octet 7 f / 128) (octet 7 g / 32) (octet 7 f))
+
+  pub same-coding : isVoice f ≡ true → coding (withIgnored g f) ≡ coding f
+  unfolding withIgnored ignoredFrom
+  same-coding v = rw v (coding-of (moreBit f) (octet 7 g / 32 % 4) (octet 7 f))
+
+  pub same-sequence : isVoice f ≡ true → sequence (withIgnored g f) ≡ sequence f
+  unfolding withIgnored ignoredFrom
+  same-sequence v = rw v
+
+  -- signalling, and of voice the noise
+  pub same-na : na (withIgnored g f) ≡ na f
+  unfolding withIgnored ignoredFrom
+  same-na = go (isVoice f) refl where
+    go : (v : Bool) → isVoice f ≡ v → na (withIgnored g f) ≡ na f
+    go true v = omega (arith, same-coding v)
+    go false v = rw v (omega arith)
+
+  pub same-bits : signalBits (withIgnored g f) ≡ signalBits f
+  unfolding withIgnored ignoredFrom
+  same-bits = go (isVoice f) refl where
+    go : (v : Bool) → isVoice f ≡ v → signalBits (withIgnored g f) ≡ signalBits f
+    go true v = rw v
+    go false v = rw v (omega arith)
+
+  -- the voice field
+  pub same-field : take (length f - 10) (drop 8 (withIgnored g f)) ≡ take (length f - 10) (drop 8 f)
+  unfolding withIgnored ignoredFrom
+  same-field =
+      take-at (take (length f - 10) (drop 8 f)) (fcsOctets (take (covered f) (ignoredFrom g f))) (length f - 10)
+      (length-take-le (length f - 10) (drop 8 f) (omega (arith, length-drop 8 f)))
+
+  -- the coding type counts of voice alone
+  by-coding : {A : Type 0} (part : Bool → ℕ → A) → ((j k : ℕ) → part false j ≡ part false k)
+      → part (isVoice (withIgnored g f)) (coding (withIgnored g f)) ≡ part (isVoice f) (coding f)
+  by-coding part none = go (isVoice f) refl where
+    go : (v : Bool) → isVoice f ≡ v → part (isVoice (withIgnored g f)) (coding (withIgnored g f)) ≡ part (isVoice f) (coding f)
+    go true v = ap₂ part same-kind (same-coding v)
+    go false v = rw (same-kind, v) (none (coding (withIgnored g f)) (coding f))
+
+  module _ (long : 10 ≤ length f) where
+    up-to-check : length (ignoredFrom g f) ≡ length f - 2
+    unfolding ignoredFrom
+    up-to-check = simp (length-take, length-drop) (omega arith)
+
+    pub same-length : length (withIgnored g f) ≡ length f
+    unfolding withIgnored fcsOctets
+    same-length = simp (length-append, up-to-check) (omega arith)
+
+    same-covered : covered (withIgnored g f) ≡ covered f
+    unfolding withIgnored ignoredFrom
+    same-covered = ap (λ (n : ℕ). cond (isVoice f) 8 (n - 2)) same-length
+
+    covered-there : (v : Bool) → cond v 8 (length f - 2) ≤ length f - 2
+    covered-there true = omega arith
+    covered-there false = omega arith
+
+    -- the check is right
+    pub check-good : fcsGood (covered (withIgnored g f)) (withIgnored g f) ≡ true
+    unfolding withIgnored
+    check-good =
+        ap (λ (n : ℕ). fcsGood n (withIgnored g f)) same-covered
+        ∙ sealed-good (covered f) (ignoredFrom g f) (rw up-to-check (covered-there (isVoice f)))
+
+    same-layout : layoutRefusal (withIgnored g f) ≡ layoutRefusal f
+    unfolding layoutRefusal
+    same-layout =
+        let F : List ℕ = withIgnored g f in
+        laid f (fieldM F) (fieldC F) (length F) (stamp F) (cond (isVoice F) (droppableBits (coding F)) 0) (legalLength F)
+        (refusal7 F) (refusal8 F) (refusal9 F) (refusal8 F orElse refusal9 F) (layoutRefusal F)
+        same-m same-c same-length same-stamp
+        (by-coding (λ v k. cond v (droppableBits k) 0) (λ j k. refl))
+        (ap₂ (λ (m c : ℕ). cond (isVoice F) (frameLength (coding F) (m - c)) 10) same-m same-c ∙ by-coding (λ v k. cond v (frameLength k (fieldM f - fieldC f)) 10) (λ j k. refl))
+        refl refl refl refl refl
+
+    -- 6 to 9
+    same-rest : refusal6 (withIgnored g f) orElse layoutRefusal (withIgnored g f) ≡ refusal6 f orElse layoutRefusal f
+    same-rest = ap₂ _orElse_ (by-coding (λ v k. refuse (v && reserved k) 6) (λ j k. refl)) same-layout
+
+    -- what refuses f, where its own check is right
+    module _ (checked : refusal4 f ≡ 0) where
+      same-link : linkRefusal (withIgnored g f) ≡ linkRefusal f
+      unfolding linkRefusal withIgnored ignoredFrom
+      same-link =
+          ap₂ (λ (n r : ℕ). refusal1 n orElse refusal2 f orElse refusal3 f orElse refusal24 f orElse r orElse refusal5 f)
+          same-length (ap (λ (good : Bool). refuse (not good) 4) check-good ∙ sym checked)
+
+      pub same-taken : takenRefusal (withIgnored g f) ≡ takenRefusal f
+      unfolding takenRefusal
+      same-taken = ap₂ _orElse_ same-link same-rest
+
+      pub same-voice : voiceRefusal (withIgnored g f) ≡ voiceRefusal f
+      unfolding voiceRefusal withIgnored ignoredFrom
+      same-voice = ap₂ (λ (r s : ℕ). r orElse refusal19 true f orElse s) same-link same-rest
+
+      pub same-signal : signalRefusal (withIgnored g f) ≡ signalRefusal f
+      unfolding signalRefusal withIgnored ignoredFrom
+      same-signal = ap₂ (λ (r s : ℕ). r orElse refusal19 false f orElse s) same-link same-layout
+
+      -- and what the two calls answer
+      pub same-link-answer : linkAnswer (withIgnored g f) ≡ linkAnswer f
+      unfolding linkAnswer withIgnored ignoredFrom
+      same-link-answer = rw same-link
+
+      pub same-taken-answer : takenAnswer (withIgnored g f) ≡ takenAnswer f
+      unfolding takenAnswer withIgnored ignoredFrom
+      same-taken-answer = rw (same-taken, same-length, same-c)
