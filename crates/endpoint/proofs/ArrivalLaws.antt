@@ -23,7 +23,7 @@ use Rattle.endpoint.specs.Calls.{isReceived}
 use Rattle.playout.proofs.PlayLaws.{by-decision, first-stands, decided-with, decided-number, decided-scheduled, decided-ranged, decided-near, decided-ahead, decided-apart, decided-left, decided-readable, still-stores, stores-nothing, refused-stores, refused-keeps}
 
 -- neither the number of the record nor that of the clock stores anything
-early-stores-nothing : (e : Endpoint) (clock : ℕ) → stillStores (refusal14 e orElse refusal18 e clock) ≡ false
+pub early-stores-nothing : (e : Endpoint) (clock : ℕ) → stillStores (refusal14 e orElse refusal18 e clock) ≡ false
 early-stores-nothing e clock = go (recordBad e) (ltb clock (e .lastclock) || ltb clockLimit clock) where
   go : (s t : Bool) → stillStores (refuse s 14 orElse refuse t 18) ≡ false
   go true t = refl
@@ -49,15 +49,22 @@ module _ (e : Endpoint) (f : List ℕ) (clock : ℕ) where
   unfolding frameDecision
   arrival-readable = decided-readable e clock (voiceRefusal f) (stamp f) (sequence f) (moreBit f) (noise f)
 
-  -- refused by the record or the clock, which store nothing
-  pub decided-early : (first : ℕ) → first ≡ refusal14 e orElse refusal18 e clock → (first ≡ 0 → ⊥)
+  -- refused by a number that stores nothing, before the turn of the frame is judged
+  pub decided-unstored : (first : ℕ) → first ≡ refusal14 e orElse refusal18 e clock orElse voiceRefusal f → (first ≡ 0 → ⊥) → stillStores first ≡ false
       → _≡_ {A = Decision} (record { refusal = first; due = 0; after = e }) (frameDecision e f clock)
   unfolding frameDecision
-  decided-early first p h =
+  decided-unstored first p h none =
       decided-with e clock (voiceRefusal f) (stamp f) (sequence f) (moreBit f) (noise f) first (record { refusal = first; due = 0; after = e })
-      (first-stands e clock (voiceRefusal f) (stamp f) (sequence f) first
-      (orElse-take (refusal14 e orElse refusal18 e clock) (voiceRefusal f) first p h ∙ sym (orElse-assoc (refusal14 e) (refusal18 e clock) (voiceRefusal f))) h) h
-      (sym (refused-keeps e first (moreBit f) (noise f) (ap stillStores p ∙ early-stores-nothing e clock)))
+      (first-stands e clock (voiceRefusal f) (stamp f) (sequence f) first p h) h
+      (sym (refused-keeps e first (moreBit f) (noise f) none))
+
+  -- as by the record or the clock
+  pub decided-early : (first : ℕ) → first ≡ refusal14 e orElse refusal18 e clock → (first ≡ 0 → ⊥)
+      → _≡_ {A = Decision} (record { refusal = first; due = 0; after = e }) (frameDecision e f clock)
+  decided-early first p h =
+      decided-unstored first
+      (orElse-take (refusal14 e orElse refusal18 e clock) (voiceRefusal f) first p h ∙ sym (orElse-assoc (refusal14 e) (refusal18 e clock) (voiceRefusal f))) h
+      (ap stillStores p ∙ early-stores-nothing e clock)
 
   pub outcome-is : (d : Decision) (s dropped reset : ℕ) → d ≡ frameDecision e f clock
       → (s ≡ heardOf (d .refusal) f .s) × (dropped ≡ heardOf (d .refusal) f .dropped) → reset ≡ resetOf (d .refusal) f

@@ -8,7 +8,7 @@ use lib.ListN.{length}
 use borrow.Author.Tests.{ltb-false, eqb-true, le-ltb, eq-eqb, not-false}
 use Rattle.octets.specs.Octets.{octet}
 use Rattle.octets.proofs.BoolLaws.{or-false}
-use Rattle.refusals.specs.Refusals.{_orElse_, refuse, refusal1}
+use Rattle.refusals.specs.Refusals.{_orElse_, refuse, addressBad, refusal1}
 use Rattle.refusals.proofs.RefusalLaws.{orElse-zero, orElse-take, orElse-pass, orElse-assoc, refuse-zero, in-range, range-in}
 use Rattle.fcs.specs.Fcs.{fcsGood}
 use Rattle.coding.specs.Coding.{droppableBits, reserved}
@@ -34,6 +34,23 @@ link-parts f =
 -- and whatever comes after them
 link-then : (f : List ℕ) (n : ℕ) → formRefusal f orElse (sumRefusal f orElse n) ≡ linkRefusal f orElse n
 link-then f n = orElse-assoc (formRefusal f) (sumRefusal f) n ∙ ap (λ (r : ℕ). r orElse n) (sym (link-parts f))
+
+-- the link's order gives 0 or one of its numbers: what holds of each holds of what it gives
+pub by-link : (P : ℕ → Type 0) (f : List ℕ) → P 0 → P 1 → P 2 → P 3 → P 24 → P 4 → P 5 → P (linkRefusal f)
+unfolding linkRefusal
+by-link P f p0 p1 p2 p3 p24 p4 p5 =
+    go (ltb (length f) 10 || ltb 490 (length f)) (not (eqb (octet 1 f % 2) 0) || not (eqb (octet 2 f % 2) 1) || addressBad (address f))
+    (not (eqb (control f) 239) && not (eqb (control f) 3)) (not (eqb (commandBit f) 0) || not (eqb (pollBit f) 0))
+    (not (fcsGood (covered f) f)) (not (eqb (octet 4 f) 68))
+  where
+    go : (t1 t2 t3 t24 t4 t5 : Bool) → P (refuse t1 1 orElse refuse t2 2 orElse refuse t3 3 orElse refuse t24 24 orElse refuse t4 4 orElse refuse t5 5)
+    go true t2 t3 t24 t4 t5 = p1
+    go false true t3 t24 t4 t5 = p2
+    go false false true t24 t4 t5 = p3
+    go false false false true t4 t5 = p24
+    go false false false false true t5 = p4
+    go false false false false false true = p5
+    go false false false false false false = p0
 
 -- two numbers judged one by one, then put in order
 pub in-order : (a b x y n : ℕ) → x ≡ a → y ≡ b → n ≡ x orElse y → n ≡ a orElse b
