@@ -1,2 +1,3 @@
+pub mod IgnoredLaws
 pub mod OnwardLaws
 pub mod SentLaws

@@ -165,7 +165,7 @@ module _ (l w a : ℕ) (f : List ℕ) (p : Passes f) where
       let s : length f ≡ 10 = p .laid .size ∙ rw e in
       onward-length l w a f ∙ rw s (omega arith)
 
-  covered-onward : (v : Bool) → isVoice f ≡ v → covered (onward l w a f) ≡ 8
+  pub covered-onward : (v : Bool) → isVoice f ≡ v → covered (onward l w a f) ≡ 8
   unfolding onward onwardHead framed
   covered-onward true e = rw e
   covered-onward false e = rw e (omega (arith, size-onward false e))
