@@ -33,7 +33,7 @@ coding-of m a k = omega arith
 
 module _ (g f : List ℕ) where
   -- octets 1 to 4 and 6 have no such bits: the address, the control octet and the stamp stay
-  pub same-octets : (octet 1 (withIgnored g f) ≡ octet 1 f) × (octet 2 (withIgnored g f) ≡ octet 2 f)
+  same-octets : (octet 1 (withIgnored g f) ≡ octet 1 f) × (octet 2 (withIgnored g f) ≡ octet 2 f)
       × (octet 3 (withIgnored g f) ≡ octet 3 f) × (octet 4 (withIgnored g f) ≡ octet 4 f)
   unfolding withIgnored ignoredFrom
   same-octets = (refl, refl, refl, refl)
@@ -44,6 +44,11 @@ module _ (g f : List ℕ) where
 
   same-kind : isVoice (withIgnored g f) ≡ isVoice f
   same-kind = ap (λ (x : ℕ). eqb (x / 32 * 32 + x % 16) 239) (same-octets .2)
+
+  -- 24 is given for none of them
+  same-24 : refusal24 (withIgnored g f) ≡ refusal24 f
+  unfolding withIgnored ignoredFrom
+  same-24 = refl
 
   pub same-m : fieldM (withIgnored g f) ≡ fieldM f
   unfolding withIgnored ignoredFrom
@@ -114,7 +119,7 @@ module _ (g f : List ℕ) where
     covered-there false = omega arith
 
     -- the check is right
-    pub check-good : fcsGood (covered (withIgnored g f)) (withIgnored g f) ≡ true
+    check-good : fcsGood (covered (withIgnored g f)) (withIgnored g f) ≡ true
     unfolding withIgnored
     check-good =
         ap (λ (n : ℕ). fcsGood n (withIgnored g f)) same-covered
@@ -140,8 +145,9 @@ module _ (g f : List ℕ) where
       same-link : linkRefusal (withIgnored g f) ≡ linkRefusal f
       unfolding linkRefusal withIgnored ignoredFrom
       same-link =
-          ap₂ (λ (n r : ℕ). refusal1 n orElse refusal2 f orElse refusal3 f orElse refusal24 f orElse r orElse refusal5 f)
-          same-length (ap (λ (good : Bool). refuse (not good) 4) check-good ∙ sym checked)
+          ap₂ (λ (n r : ℕ). refusal1 n orElse refusal2 f orElse refusal3 f orElse r orElse refusal4 (withIgnored g f) orElse refusal5 f) same-length same-24
+          ∙ ap (λ (r : ℕ). refusal1 (length f) orElse refusal2 f orElse refusal3 f orElse refusal24 f orElse r orElse refusal5 f)
+          (ap (λ (good : Bool). refuse (not good) 4) check-good ∙ sym checked)
 
       pub same-taken : takenRefusal (withIgnored g f) ≡ takenRefusal f
       unfolding takenRefusal

@@ -7,7 +7,7 @@ ghost use lib.ListN.{length};
 ghost use Rattle.octets.specs.Octets.{octet};
 ghost use Rattle.refusals.specs.Refusals.{_orElse_, refusal1};
 ghost use Rattle.coding.specs.Coding.{droppableBits};
-ghost use Rattle.frame.specs.Fields.{address, control, isVoice, fieldM, fieldC, stamp, moreBit, coding, sequence, noise, na, signalBits};
+ghost use Rattle.frame.specs.Fields.{address, commandBit, pollBit, control, isVoice, fieldM, fieldC, stamp, moreBit, coding, sequence, noise, na, signalBits};
 ghost use Rattle.frame.specs.Orders.{refusal2, refusal3, refusal24, refusal4, refusal5, refusal6, refusal19, legalLength, linkRefusal, layoutRefusal, takenRefusal, voiceRefusal, signalRefusal};
 ghost use Rattle.frame.specs.Calls.{linkAnswer, takenAnswer};
 use coding::Coding;
@@ -19,6 +19,18 @@ pub fn address_of(frame: &[u8]) -> usize
     ensures { λ r. ⌜ (r ≡ address (now (frame .entry))) × (r < 8192) ⌝ }
 {
     at(frame, 0) / 4 * 128 + at(frame, 1) / 2
+}
+
+fn command_bit(frame: &[u8]) -> usize
+    ensures { λ r. ⌜ r ≡ commandBit (now (frame .entry)) ⌝ }
+{
+    at(frame, 0) / 2 % 2
+}
+
+fn poll_bit(frame: &[u8]) -> usize
+    ensures { λ r. ⌜ r ≡ pollBit (now (frame .entry)) ⌝ }
+{
+    at(frame, 2) / 16 % 2
 }
 
 fn control_of(frame: &[u8]) -> usize
@@ -107,8 +119,8 @@ fn refusal_3(frame: &[u8]) -> u8
 fn refusal_24(frame: &[u8]) -> u8
     ensures { λ r. ⌜ r ≡ refusal24 (now (frame .entry)) ⌝ }
 {
-    let command = at(frame, 0) / 2 % 2;
-    let poll = at(frame, 2) / 16 % 2;
+    let command = command_bit(frame);
+    let poll = poll_bit(frame);
     refuse((command != 0) | (poll != 0), 24)
 }
 
