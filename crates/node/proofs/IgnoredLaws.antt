@@ -1,7 +1,7 @@
 -- A node ignores reserved bits, and of signalling the more bit and the sequence, and passes them on as they came: a frame and the same frame with those bits changed and its check
 -- made afresh are refused and answered alike, and what is sent on of the one is what is sent on of the other, with those bits and its check made afresh.
 use Prim.Native.Nat.{ℕ, zero, suc, _≤_}
-use mathlib.Core.Path.{_≡_, refl, sym, ap, ap₂, _∙_}
+use mathlib.Core.Path.{_≡_, refl, ap, ap₂, _∙_}
 use mathlib.Core.List.{List}
 use lib.ListN.{length}
 use Rattle.refusals.specs.Refusals.{_orElse_, refusal10, refusal15, refusal16}

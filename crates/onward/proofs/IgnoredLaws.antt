@@ -7,7 +7,7 @@ use lib.ListN.{length, take, drop, take-append-drop}
 use lib.Seq.{take-take, take-at}
 use Rattle.octets.specs.Octets.{octet}
 use Rattle.fcs.specs.Fcs.{fcsOctets}
-use Rattle.frame.specs.Fields.{fieldM, fieldC, stamp, covered}
+use Rattle.frame.specs.Fields.{fieldM, fieldC, stamp}
 use Rattle.frame.specs.Ignored.{octet5With, octet7With, octet8With, ignoredFrom, withIgnored}
 use Rattle.frame.proofs.FrameLaws.{Passes}
 use Rattle.frame.proofs.IgnoredLaws.{same-c, same-field, same-length}
@@ -19,7 +19,7 @@ less-of : (x c l : ℕ) → x + c - min c l ≡ x + (c - min c l)
 less-of x c l = omega arith
 
 module _ (g f : List ℕ) (l w a : ℕ) where
-  pub same-dropped : dropped l (withIgnored g f) ≡ dropped l f
+  same-dropped : dropped l (withIgnored g f) ≡ dropped l f
   unfolding dropped
   same-dropped = ap (λ (c : ℕ). min c l) (same-c g f)
 
