@@ -2,7 +2,7 @@
 -- C/R and poll bits are not among them: 24 refuses them.
 use Prim.Native.Nat.{ℕ, zero, suc, _-_, _≤_}
 use mathlib.Core.Path.{_≡_, refl, sym, ap, _∙_}
-use mathlib.Core.Bool.{Bool, true, false}
+use mathlib.Core.Bool.{true, false}
 use mathlib.Core.List.{List}
 use native.Mathlib.Omega.{arith}
 use lib.ListN.{length, drop}
@@ -12,7 +12,7 @@ use Rattle.blocks.proofs.BlocksLaws.{samples-alike}
 use Rattle.frame.specs.Fields.{isVoice}
 use Rattle.frame.specs.Orders.{refusal4, linkRefusal, voiceRefusal}
 use Rattle.frame.specs.Ignored.{withIgnored}
-use Rattle.frame.proofs.FrameLaws.{by-link, voice-taken}
+use Rattle.frame.proofs.FrameLaws.{by-link, by-kind, voice-taken}
 use Rattle.frame.proofs.IgnoredLaws.{same-m, same-c, same-stamp, same-more, same-coding, same-sequence, same-na, same-bits, same-field, same-voice, same-signal}
 use Rattle.playout.specs.declared.Endpoint.{Endpoint}
 use Rattle.playout.specs.declared.Decision.{Decision}
@@ -76,15 +76,14 @@ module _ (g f : List ℕ) where
 
     decided-same : (e : Endpoint) (clock : ℕ) → frameDecision e (withIgnored g f) clock ≡ frameDecision e f clock
     unfolding frameDecision
-    decided-same e clock = go (isVoice f) refl where
-      go : (v : Bool) → isVoice f ≡ v → frameDecision e (withIgnored g f) clock ≡ frameDecision e f clock
-      go true v = simp (same-voice g f long checked, same-stamp g f, same-more g f v, same-sequence g f v, same-bits g f)
-      go false v =
-          let first : ℕ = refusal14 e orElse refusal18 e clock orElse voiceRefusal f in
-          let none = signalling-stores e clock f v in
-          let some = signalling-refused e clock f v in
-          sym (decided-unstored e (withIgnored g f) clock first (ap (λ (n : ℕ). refusal14 e orElse refusal18 e clock orElse n) (sym (same-voice g f long checked))) some none)
-          ∙ decided-unstored e f clock first refl some none
+    decided-same e clock =
+        by-kind f
+        (λ v. simp (same-voice g f long checked, same-stamp g f, same-more g f v, same-sequence g f v, same-bits g f))
+        (λ v. let first : ℕ = refusal14 e orElse refusal18 e clock orElse voiceRefusal f in
+        let none = signalling-stores e clock f v in
+        let some = signalling-refused e clock f v in
+        sym (decided-unstored e (withIgnored g f) clock first (ap (λ (n : ℕ). refusal14 e orElse refusal18 e clock orElse n) (sym (same-voice g f long checked))) some none)
+        ∙ decided-unstored e f clock first refl some none)
 
     pub arrival-ignores : (e : Endpoint) (clock : ℕ) → arrivalOf e (withIgnored g f) clock ≡ arrivalOf e f clock
     unfolding arrivalOf

@@ -1,6 +1,6 @@
 -- How the orders are judged in steps, and what is known of a frame that nothing refuses, both ways.
 use Prim.Native.Nat.{ℕ, _%_, _≤_}
-use mathlib.Core.Path.{_≡_, sym, ap, ap₂, _∙_}
+use mathlib.Core.Path.{_≡_, refl, sym, ap, ap₂, _∙_}
 use mathlib.Core.Bool.{Bool, true, false, _&&_, _||_, not, cond}
 use mathlib.Core.List.{List}
 use lib.Dec.{ltb, eqb}
@@ -51,6 +51,13 @@ by-link P f p0 p1 p2 p3 p24 p4 p5 =
     go false false false false true t5 = p4
     go false false false false false true = p5
     go false false false false false false = p0
+
+-- what holds of voice and of signalling holds of a frame
+pub by-kind : {P : Type 0} (f : List ℕ) → (isVoice f ≡ true → P) → (isVoice f ≡ false → P) → P
+by-kind {P} f voice signalling = go (isVoice f) refl where
+  go : (v : Bool) → isVoice f ≡ v → P
+  go true e = voice e
+  go false e = signalling e
 
 -- two numbers judged one by one, then put in order
 pub in-order : (a b x y n : ℕ) → x ≡ a → y ≡ b → n ≡ x orElse y → n ≡ a orElse b

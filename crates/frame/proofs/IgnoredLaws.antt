@@ -16,7 +16,7 @@ use Rattle.frame.specs.Fields.{isVoice, fieldM, fieldC, stamp, moreBit, 
 use Rattle.frame.specs.Orders.{refusal2, refusal3, refusal24, refusal4, refusal5, refusal6, refusal7, refusal8, refusal9, refusal19, legalLength, linkRefusal, layoutRefusal, takenRefusal, voiceRefusal, signalRefusal}
 use Rattle.frame.specs.Ignored.{ignoredFrom, withIgnored}
 use Rattle.frame.specs.Calls.{linkAnswer, takenAnswer}
-use Rattle.frame.proofs.FrameLaws.{laid}
+use Rattle.frame.proofs.FrameLaws.{by-kind, laid}
 
 -- a field of an octet is what it was, whatever the bits beside it
 m-of : (a m b c : ℕ) → (a * 64 + m % 4 * 16 + b % 4 * 4 + c % 4) / 16 % 4 ≡ m % 4
@@ -74,17 +74,11 @@ module _ (g f : List ℕ) where
   -- signalling, and of voice the noise
   pub same-na : na (withIgnored g f) ≡ na f
   unfolding withIgnored ignoredFrom
-  same-na = go (isVoice f) refl where
-    go : (v : Bool) → isVoice f ≡ v → na (withIgnored g f) ≡ na f
-    go true v = omega (arith, same-coding v)
-    go false v = rw v (omega arith)
+  same-na = by-kind f (λ v. omega (arith, same-coding v)) (λ v. rw v (omega arith))
 
   pub same-bits : signalBits (withIgnored g f) ≡ signalBits f
   unfolding withIgnored ignoredFrom
-  same-bits = go (isVoice f) refl where
-    go : (v : Bool) → isVoice f ≡ v → signalBits (withIgnored g f) ≡ signalBits f
-    go true v = rw v
-    go false v = rw v (omega arith)
+  same-bits = by-kind f (λ v. rw v) (λ v. rw v (omega arith))
 
   -- the voice field
   pub same-field : take (length f - 10) (drop 8 (withIgnored g f)) ≡ take (length f - 10) (drop 8 f)
@@ -96,10 +90,8 @@ module _ (g f : List ℕ) where
   -- the coding type counts of voice alone
   by-coding : {A : Type 0} (part : Bool → ℕ → A) → ((j k : ℕ) → part false j ≡ part false k)
       → part (isVoice (withIgnored g f)) (coding (withIgnored g f)) ≡ part (isVoice f) (coding f)
-  by-coding part none = go (isVoice f) refl where
-    go : (v : Bool) → isVoice f ≡ v → part (isVoice (withIgnored g f)) (coding (withIgnored g f)) ≡ part (isVoice f) (coding f)
-    go true v = ap₂ part same-kind (same-coding v)
-    go false v = rw (same-kind, v) (none (coding (withIgnored g f)) (coding f))
+  by-coding part none =
+      by-kind f (λ v. ap₂ part same-kind (same-coding v)) (λ v. rw (same-kind, v) (none (coding (withIgnored g f)) (coding f)))
 
   module _ (long : 10 ≤ length f) where
     up-to-check : length (ignoredFrom g f) ≡ length f - 2
