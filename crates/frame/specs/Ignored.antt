@@ -1,4 +1,5 @@
--- Document 01, "Frame layout": what a reader ignores and a node passes on as it came, the reserved bits and the more bit and sequence of a signalling frame.
+-- Document 01, "Frame layout", as request A5 leaves it: what a reader ignores and a node passes on as it came, the reserved bits and the more bit and sequence of a signalling frame.
+-- Theorems go by it; no call's promise cites what stands here.
 use Prim.Native.Nat.{ℕ, _+_, _-_, _*_, _/_, _%_}
 use mathlib.Core.Bool.{cond}
 use mathlib.Core.List.{List, _∷_, _++_}
