@@ -160,4 +160,4 @@ module _ (g f : List ℕ) where
 
       pub same-taken-answer : takenAnswer (withIgnored g f) ≡ takenAnswer f
       unfolding takenAnswer withIgnored ignoredFrom
-      same-taken-answer = rw (same-taken, same-length, same-c)
+      same-taken-answer = simp (same-taken, same-length, same-m, same-c)
