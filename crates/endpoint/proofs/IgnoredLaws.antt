@@ -10,10 +10,10 @@ use Rattle.refusals.specs.Refusals.{_orElse_}
 use Rattle.refusals.proofs.RefusalLaws.{orElse-zero, orElse-assoc}
 use Rattle.blocks.proofs.BlocksLaws.{samples-alike}
 use Rattle.frame.specs.Fields.{isVoice}
-use Rattle.frame.specs.Orders.{refusal4, linkRefusal, voiceRefusal}
+use Rattle.frame.specs.Orders.{linkRefusal, voiceRefusal}
 use Rattle.frame.specs.Ignored.{withIgnored}
 use Rattle.frame.proofs.FrameLaws.{by-link, by-kind, voice-taken}
-use Rattle.frame.proofs.IgnoredLaws.{same-m, same-c, same-stamp, same-more, same-coding, same-sequence, same-na, same-bits, same-field, same-voice, same-signal}
+use Rattle.frame.proofs.IgnoredLaws.{same-m, same-c, same-stamp, same-more, same-coding, same-sequence, same-na, same-bits, same-field, same-voice-refusal, same-signal-refusal}
 use Rattle.playout.specs.declared.Endpoint.{Endpoint}
 use Rattle.playout.specs.declared.Decision.{Decision}
 use Rattle.playout.specs.Play.{refusal14, refusal18, stillStores}
@@ -69,20 +69,20 @@ module _ (g f : List ℕ) where
   unfolding arrivalBy
   by-same d h = rw (heard-same (d .refusal) h, reset-same (d .refusal) h)
 
-  module _ (long : 10 ≤ length f) (checked : refusal4 f ≡ 0) where
+  module _ (long : 10 ≤ length f) (summed : linkRefusal f ≡ 4 → ⊥) where
     pub read-ignores : readAnswer (withIgnored g f) ≡ readAnswer f
     unfolding readAnswer
-    read-ignores = ap (λ (n : ℕ). heardOf n (withIgnored g f)) (same-voice g f long checked) ∙ heard-same (voiceRefusal f) (λ z. z)
+    read-ignores = ap (λ (n : ℕ). heardOf n (withIgnored g f)) (same-voice-refusal g f long summed) ∙ heard-same (voiceRefusal f) (λ z. z)
 
     decided-same : (e : Endpoint) (clock : ℕ) → frameDecision e (withIgnored g f) clock ≡ frameDecision e f clock
     unfolding frameDecision
     decided-same e clock =
         by-kind f
-        (λ v. simp (same-voice g f long checked, same-stamp g f, same-more g f v, same-sequence g f v, same-bits g f))
+        (λ v. simp (same-voice-refusal g f long summed, same-stamp g f, same-more g f v, same-sequence g f v, same-bits g f))
         (λ v. let first : ℕ = refusal14 e orElse refusal18 e clock orElse voiceRefusal f in
         let none = signalling-stores e clock f v in
         let some = signalling-refused e clock f v in
-        sym (decided-unstored e (withIgnored g f) clock first (ap (λ (n : ℕ). refusal14 e orElse refusal18 e clock orElse n) (sym (same-voice g f long checked))) some none)
+        sym (decided-unstored e (withIgnored g f) clock first (ap (λ (n : ℕ). refusal14 e orElse refusal18 e clock orElse n) (sym (same-voice-refusal g f long summed))) some none)
         ∙ decided-unstored e f clock first refl some none)
 
     pub arrival-ignores : (e : Endpoint) (clock : ℕ) → arrivalOf e (withIgnored g f) clock ≡ arrivalOf e f clock
@@ -92,4 +92,4 @@ module _ (g f : List ℕ) where
 
     pub signal-ignores : (b : ℕ) → signalAnswer b (withIgnored g f) ≡ signalAnswer b f
     unfolding signalAnswer signalOrder
-    signal-ignores b = simp (same-signal g f long checked, same-stamp g f, same-na g f, same-bits g f)
+    signal-ignores b = simp (same-signal-refusal g f long summed, same-stamp g f, same-na g f, same-bits g f)

@@ -1,5 +1,5 @@
 -- Ignored bits make no difference: a frame and the same frame with those bits changed and its check made afresh have the same fields, and the same numbers refuse them.
-use Prim.Native.Nat.{ℕ, _+_, _-_, _*_, _/_, _%_, _≤_}
+use Prim.Native.Nat.{ℕ, zero, suc, _+_, _-_, _*_, _/_, _%_, _≤_}
 use mathlib.Core.Path.{_≡_, refl, sym, ap, ap₂, _∙_}
 use mathlib.Core.Bool.{Bool, true, false, not, _&&_, cond}
 use mathlib.Core.List.{List}
@@ -13,10 +13,10 @@ use Rattle.fcs.specs.Fcs.{fcsOctets, fcsGood}
 use Rattle.fcs.proofs.SealLaws.{sealed-good}
 use Rattle.coding.specs.Coding.{droppableBits, frameLength, reserved}
 use Rattle.frame.specs.Fields.{isVoice, fieldM, fieldC, stamp, moreBit, coding, sequence, na, signalBits, covered}
-use Rattle.frame.specs.Orders.{refusal2, refusal3, refusal24, refusal4, refusal5, refusal6, refusal7, refusal8, refusal9, refusal19, legalLength, linkRefusal, layoutRefusal, takenRefusal, voiceRefusal, signalRefusal}
+use Rattle.frame.specs.Orders.{refusal2, refusal3, refusal24, refusal5, refusal6, refusal7, refusal8, refusal9, refusal19, legalLength, linkRefusal, layoutRefusal, takenRefusal, voiceRefusal, signalRefusal}
 use Rattle.frame.specs.Ignored.{ignoredFrom, withIgnored}
 use Rattle.frame.specs.Calls.{linkAnswer, takenAnswer}
-use Rattle.frame.proofs.FrameLaws.{by-kind, laid}
+use Rattle.frame.proofs.FrameLaws.{formRefusal, sumRefusal, link-parts, by-kind, laid}
 
 -- a field of an octet is what it was, whatever the bits beside it
 m-of : (a m b c : ℕ) → (a * 64 + m % 4 * 16 + b % 4 * 4 + c % 4) / 16 % 4 ≡ m % 4
@@ -30,6 +30,12 @@ more-of m a k = omega arith
 
 coding-of : (m a k : ℕ) → (m * 128 + a * 32 + k % 32) % 32 ≡ k % 32
 coding-of m a k = omega arith
+
+-- an order that does not come to 4 is what it is without it
+not-by-4 : (a b : ℕ) (wrong : Bool) → (a orElse refuse wrong 4 orElse b ≡ 4 → ⊥) → a orElse b ≡ a orElse refuse wrong 4 orElse b
+not-by-4 zero b true h = absurd (h refl)
+not-by-4 zero b false h = refl
+not-by-4 (suc a) b wrong h = refl
 
 module _ (g f : List ℕ) where
   -- octets 1 to 4 and 6 have no such bits: the address, the control octet and the stamp stay
@@ -132,32 +138,40 @@ module _ (g f : List ℕ) where
     same-rest : refusal6 (withIgnored g f) orElse layoutRefusal (withIgnored g f) ≡ refusal6 f orElse layoutRefusal f
     same-rest = ap₂ _orElse_ (by-coding (λ v k. refuse (v && reserved k) 6) (λ j k. refl)) same-layout
 
-    -- what refuses f, where its own check is right
-    module _ (checked : refusal4 f ≡ 0) where
-      same-link : linkRefusal (withIgnored g f) ≡ linkRefusal f
-      unfolding linkRefusal withIgnored ignoredFrom
-      same-link =
-          ap₂ (λ (n r : ℕ). refusal1 n orElse refusal2 f orElse refusal3 f orElse r orElse refusal4 (withIgnored g f) orElse refusal5 f) same-length same-24
-          ∙ ap (λ (r : ℕ). refusal1 (length f) orElse refusal2 f orElse refusal3 f orElse refusal24 f orElse r orElse refusal5 f)
-          (ap (λ (good : Bool). refuse (not good) 4) check-good ∙ sym checked)
+    same-form : formRefusal (withIgnored g f) ≡ formRefusal f
+    unfolding withIgnored ignoredFrom
+    same-form = ap₂ (λ (n r : ℕ). refusal1 n orElse refusal2 f orElse refusal3 f orElse r) same-length same-24
 
-      pub same-taken : takenRefusal (withIgnored g f) ≡ takenRefusal f
+    fresh-sum : sumRefusal (withIgnored g f) ≡ refusal5 f
+    unfolding withIgnored ignoredFrom
+    fresh-sum = ap (λ (good : Bool). refuse (not good) 4 orElse refusal5 f) check-good
+
+    -- what refuses f, where that is not its check
+    module _ (summed : linkRefusal f ≡ 4 → ⊥) where
+      same-link-refusal : linkRefusal (withIgnored g f) ≡ linkRefusal f
+      same-link-refusal =
+          link-parts (withIgnored g f)
+          ∙ ap₂ _orElse_ same-form fresh-sum
+          ∙ not-by-4 (formRefusal f) (refusal5 f) (not (fcsGood (covered f) f)) (λ e. summed (link-parts f ∙ e))
+          ∙ sym (link-parts f)
+
+      pub same-taken-refusal : takenRefusal (withIgnored g f) ≡ takenRefusal f
       unfolding takenRefusal
-      same-taken = ap₂ _orElse_ same-link same-rest
+      same-taken-refusal = ap₂ _orElse_ same-link-refusal same-rest
 
-      pub same-voice : voiceRefusal (withIgnored g f) ≡ voiceRefusal f
+      pub same-voice-refusal : voiceRefusal (withIgnored g f) ≡ voiceRefusal f
       unfolding voiceRefusal withIgnored ignoredFrom
-      same-voice = ap₂ (λ (r s : ℕ). r orElse refusal19 true f orElse s) same-link same-rest
+      same-voice-refusal = ap₂ (λ (r s : ℕ). r orElse refusal19 true f orElse s) same-link-refusal same-rest
 
-      pub same-signal : signalRefusal (withIgnored g f) ≡ signalRefusal f
+      pub same-signal-refusal : signalRefusal (withIgnored g f) ≡ signalRefusal f
       unfolding signalRefusal withIgnored ignoredFrom
-      same-signal = ap₂ (λ (r s : ℕ). r orElse refusal19 false f orElse s) same-link same-layout
+      same-signal-refusal = ap₂ (λ (r s : ℕ). r orElse refusal19 false f orElse s) same-link-refusal same-layout
 
       -- and what the two calls answer
-      pub same-link-answer : linkAnswer (withIgnored g f) ≡ linkAnswer f
+      pub link-ignores : linkAnswer (withIgnored g f) ≡ linkAnswer f
       unfolding linkAnswer withIgnored ignoredFrom
-      same-link-answer = rw same-link
+      link-ignores = rw same-link-refusal
 
-      pub same-taken-answer : takenAnswer (withIgnored g f) ≡ takenAnswer f
+      pub taken-ignores : takenAnswer (withIgnored g f) ≡ takenAnswer f
       unfolding takenAnswer withIgnored ignoredFrom
-      same-taken-answer = simp (same-taken, same-length, same-m, same-c)
+      taken-ignores = simp (same-taken-refusal, same-length, same-m, same-c)

@@ -1,3 +1,4 @@
 pub mod FrameLaws
 pub mod IgnoredLaws
+pub mod CommonLaws
 pub mod OneOutcome

@@ -1,4 +1,4 @@
--- Document 01, "Refusal numbers" and "Order": the numbers that judge a frame, one definition each, and the orders made of them.
+-- Document 01, "Refusal numbers" and "Order", with request A5's 24: the numbers that judge a frame, one definition each, and the orders made of them.
 use Prim.Native.Nat.{ℕ, _-_, _%_}
 use mathlib.Core.Bool.{Bool, true, false, _||_, _&&_, not, cond}
 use mathlib.Core.List.{List}

@@ -6,7 +6,7 @@ use native.Mathlib.Omega.{arith}
 use lib.ListN.{length, take, drop}
 use lib.Seq.{take-at}
 use Rattle.octets.specs.Octets.{octet}
-use Rattle.frame.specs.Fields.{pollBit}
+use Rattle.frame.specs.Fields.{commandBit, pollBit}
 use Rattle.frame.specs.Orders.{refusal24}
 use Rattle.onward.specs.Onward.{onwardHead, framed, onward}
 use Rattle.onward.specs.Sent.{sentAnswer, sentBuffer}
@@ -16,7 +16,7 @@ use Rattle.origin.specs.Signal.{signalHead, signalWritten, signalRefusal
 use Rattle.origin.specs.declared.Step.{Step}
 
 -- a frame made with both bits 0 is sent with both 0
-sent-clear : (level wait addr : ℕ) (f : List ℕ) → octet 1 f % 4 ≡ 0 → pollBit f ≡ 0 → refusal24 (onward level wait addr f) ≡ 0
+sent-clear : (level wait addr : ℕ) (f : List ℕ) → commandBit f ≡ 0 → pollBit f ≡ 0 → refusal24 (onward level wait addr f) ≡ 0
 unfolding onward onwardHead framed
 sent-clear level wait addr f h z =
     let first : (addr / 128 * 4 + octet 1 f % 4) / 2 % 2 ≡ 0 = omega arith in

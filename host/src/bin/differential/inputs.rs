@@ -190,6 +190,7 @@ impl Draft {
 
 /// Any frame or rubbish: right, with faults, damaged by a bit, cut, prolonged or random.
 pub fn frame(random: &mut Random) -> Vec<u8> {
+    // Two in eleven are right as they are, beside those among the first five that have no fault drawn.
     let kind = random.below(11);
     let faults = match kind {
         0..=4 => Faults::among(random, &FRAME_FAULTS),

@@ -456,23 +456,25 @@ impl Run {
                 let hop = Hop::draw(&mut self.random, true);
                 let mut one = Lent::to_read(&mut self.random, &pair.one);
                 let mut other = Lent { frame: lent::octets(&mut self.random, &pair.other), ..one.clone() };
+                let came = [one.frame.clone(), other.frame.clone()];
                 let numbers = [&mut one, &mut other].map(|lent| hop.read_by(&Card, call, lent));
                 if call == Call::Forward && numbers == [0, 0] {
                     [&one, &other].iter().for_each(|lent| self.head_bits.wrote(call, lent.out.part()));
                     let length = one.answer.part()[0] as usize;
                     pair.change_sent(&mut one.out.part_mut()[..length]);
                 }
-                // All that is lent is to be the same but the frame that came.
+                // The frames are to be as they came, and all else that is lent the same.
+                let untouched = came.each_ref() == [&one.frame, &other.frame];
                 one.frame = other.frame.clone();
                 let difference = one.difference(&other);
-                if numbers == [0, 0] && difference.is_none() {
+                if numbers == [0, 0] && untouched && difference.is_none() {
                     self.head_bits.alike(row, call);
                 } else {
                     self.differs(|| {
                         println!("different: {}, frames that differ in bits that are ignored", call.name());
-                        println!("  answered {numbers:?}, first to differ: {difference:?}");
+                        println!("  answered {numbers:?}, frames untouched: {untouched}, first to differ: {difference:?}");
                         println!(
-                            "  frames {:?}\n  and {:?}\n  right {one:?}\n  the card {other:?}",
+                            "  frames {:?}\n  and {:?}\n  of the one {one:?}\n  of the other {other:?}",
                             pair.one, pair.other
                         );
                     });
