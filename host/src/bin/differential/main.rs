@@ -472,7 +472,9 @@ impl Run {
                 } else {
                     self.differs(|| {
                         println!("different: {}, frames that differ in bits that are ignored", call.name());
-                        println!("  answered {numbers:?}, frames untouched: {untouched}, first to differ: {difference:?}");
+                        println!(
+                            "  answered {numbers:?}, frames untouched: {untouched}, first to differ: {difference:?}"
+                        );
                         println!(
                             "  frames {:?}\n  and {:?}\n  of the one {one:?}\n  of the other {other:?}",
                             pair.one, pair.other
