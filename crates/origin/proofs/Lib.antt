@@ -1,4 +1,5 @@
 pub mod BurstLaws
+pub mod MadeLaws
 pub mod SendLaws
 pub mod SignalLaws
 pub mod ClearLaws

@@ -21,9 +21,10 @@ use Rattle.frame.specs.Fields.{isVoice, fieldM, fieldC, stamp, moreBit, coding,
 use Rattle.frame.proofs.FrameLaws.{Passes}
 use Rattle.onward.specs.Onward.{stampAfter, dropped, onwardHead, onwardField, framed, onward}
 use Rattle.onward.proofs.SentLaws.{answer-refused, buffer-refused, answer-done, buffer-done}
-use Rattle.onward.proofs.OnwardLaws.{framed-length, framed-good, onward-length, onward-C, onward-M, closed, sealed-behind}
+use Rattle.onward.proofs.OnwardLaws.{framed-length, onward-length, onward-C, onward-M, closed, sealed-behind}
 use Rattle.origin.specs.declared.Step.{Step}
 use Rattle.origin.specs.Burst.{refusal13, refusal14, sequenceSent, moreSent, sseqSet, sseqAfter}
+use Rattle.origin.proofs.MadeLaws.{made-linked}
 use Rattle.origin.proofs.BurstLaws.{sequence-le, more-le, kept-le}
 use Rattle.origin.specs.Send.{madeHead, made, sendWritten, sendRefusal, sendAnswer, sendBuffer, sendSseq}
 
@@ -121,22 +122,10 @@ module _ (addr t more seq n : ℕ) (samples : List ℕ) where
     pub made-passes : Passes (made addr t more seq n samples)
     unfolding made madeHead framed
     made-passes =
-        let r = in-range addr inside in
         let none : fieldM (made addr t more seq n samples) - fieldC (made addr t more seq n samples) ≡ 0 = omega (arith, made-M, made-C) in
         record {
-          linked = record {
-            long = omega (arith, made-length);
-            short = omega (arith, made-length, s-le-8 t);
-            bit1 = omega arith;
-            bit2 = omega arith;
-            addr-low = omega arith;
-            addr-high = omega arith;
-            known = refl;
-            command = omega arith;
-            poll = refl;
-            check = framed-good (madeHead addr t more seq n) (field samples (sampleBits t) (sampleBits t)) refl;
-            ident = refl;
-          };
+          linked = made-linked addr 239 (droppableBits t * 16 + droppableBits t) (more * 128 + t) (seq * 16 + n) (field samples (sampleBits t) (sampleBits t))
+              inside (omega (arith, length-field samples (sampleBits t) (sampleBits t), s-le-8 t)) refl refl refl;
           coded = ap reserved made-type ∙ known;
           laid = record {
             m-is-d = made-M ∙ sym (ap droppableBits made-type);

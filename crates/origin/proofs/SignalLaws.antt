@@ -9,14 +9,15 @@ use lib.ListN.{length, take, drop}
 use borrow.Author.Tests.{ltb-false, le-ltb}
 use Rattle.octets.proofs.BoolLaws.{or-false}
 use Rattle.refusals.specs.Refusals.{_orElse_, addressBad, refusal12, refusal15, refusal16}
-use Rattle.refusals.proofs.RefusalLaws.{orElse-zero, refuse-zero, in-range}
+use Rattle.refusals.proofs.RefusalLaws.{orElse-zero, refuse-zero}
 use Rattle.fcs.specs.Fcs.{fcsOctets}
 use Rattle.frame.specs.Fields.{isVoice, stamp, moreBit, sequence, na, signalBits}
 use Rattle.frame.specs.Orders.{signalRefusal as readerRefusal}
 use Rattle.frame.proofs.FrameLaws.{Passes, link-passed, layout-passed}
 use Rattle.onward.specs.Onward.{stampAfter, dropped, onwardHead, onwardField, framed, onward}
 use Rattle.onward.proofs.SentLaws.{answer-refused, buffer-refused, answer-done, buffer-done}
-use Rattle.onward.proofs.OnwardLaws.{framed-good, onward-length, closed, sealed-behind}
+use Rattle.onward.proofs.OnwardLaws.{onward-length, closed, sealed-behind}
+use Rattle.origin.proofs.MadeLaws.{made-linked}
 use Rattle.origin.specs.Signal.{signalHead, signalWritten, signalRefusal, signalAnswer, signalBuffer}
 
 module _ (bits n wait addr : ℕ) where
@@ -110,21 +111,8 @@ module _ (bits n wait addr : ℕ) where
   signal-made-passes : addressBad addr ≡ false → Passes (framed (signalHead addr n bits) [])
   unfolding signalHead framed fcsOctets
   signal-made-passes inside =
-      let r = in-range addr inside in
       record {
-        linked = record {
-          long = omega arith;
-          short = omega arith;
-          bit1 = omega arith;
-          bit2 = omega arith;
-          addr-low = omega arith;
-          addr-high = omega arith;
-          known = refl;
-          command = omega arith;
-          poll = refl;
-          check = framed-good (signalHead addr n bits) [] refl;
-          ident = refl;
-        };
+        linked = made-linked addr 3 0 n bits [] inside (omega arith) refl refl refl;
         coded = refl;
         laid = record { m-is-d = refl; c-le-m = omega arith; size = refl; stamped = omega arith };
       }
