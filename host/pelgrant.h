@@ -1,6 +1,6 @@
 /* The calls of the card, for a host in C. Document 01 is the law of what they do, as requests A2 and A5
  * of document 02 amend it; for the two calls of the signalling watch it is request A1, for the two of a
- * line of bits request A4.
+ * line of bits request A4, for the three of a waiting room request A6.
  *
  * Every call takes any octets and any numbers, comes to an end and gives a refusal number of
  * those documents, 0 when done. Where several apply, the one that stands first in the call's order,
@@ -16,9 +16,9 @@
  * may be longer than is needed; the rest of it is left alone. In the orders below this first 16 is
  * written "16 (answer)".
  *
- * A refused call leaves SSEQ, the record, the watch, the line and the buffer for a frame as they came,
- * but for one thing: an arrival refused with 17 or 20 still stores the frame's more bit and noise in the
- * record. A frame written leaves the rest of its buffer as it was, on a line to the bit.
+ * A refused call leaves SSEQ, the record, the watch, the line, the store, the queue and the buffer for a
+ * frame as they came, but for one thing: an arrival refused with 17 or 20 still stores the frame's more bit
+ * and noise in the record. A frame written leaves the rest of its buffer as it was, on a line to the bit.
  *
  * A frame is the octets between two flags, zero bits taken out: 10 to 490 octets. None that the origin or
  * a node writes is longer than PELGRANT_FRAME_MAX; a line may carry others, up to PELGRANT_LINE_FRAME_MAX.
@@ -33,6 +33,12 @@
  *
  * A line is lent octets and a count of bits, lowest bit of each octet first: bit i of the line is bit
  * i % 8 of octet i / 8. A flag is a zero, six ones and a zero.
+ *
+ * A waiting room is a store, lent octets, and a queue, the record of what waits there: 67 numbers of 32
+ * bits. Frame k that waits, from 0, has slot (FIRST + k) % 32, where its length and its clock reading at
+ * arrival stand. The first frame begins at place HEAD of the store and each other where the one before it
+ * ends; a frame that reaches the store's end goes on at its beginning. What the slots hold that no
+ * waiting frame has is of no account.
  */
 #ifndef PELGRANT_H
 #define PELGRANT_H
@@ -49,7 +55,10 @@ enum {
     PELGRANT_FRAME_MAX = 138,      /* octets of the longest frame that the origin or a node writes */
     PELGRANT_LINE_FRAME_MAX = 490, /* octets of the longest frame that a line carries */
     PELGRANT_RECORD = 6,           /* numbers in an endpoint's record */
-    PELGRANT_WATCH = 9             /* numbers in a circuit's signalling watch */
+    PELGRANT_WATCH = 9,            /* numbers in a circuit's signalling watch */
+    PELGRANT_QUEUE = 67,           /* numbers in a queue */
+    PELGRANT_QUEUE_FRAMES = 32,    /* that may wait in one */
+    PELGRANT_STORE_MAX = 16384     /* octets of the longest store */
 };
 
 /* The steps of a burst. */
@@ -82,6 +91,16 @@ enum {
 
 /* The states of the originating end (the first two) and of the terminating end (all but ALARM). */
 enum { PELGRANT_NORM = 0, PELGRANT_ALARM = 1, PELGRANT_L_ALARM = 1, PELGRANT_R_ALARM = 2 };
+
+/* The fields of a queue: the place in the store where the first frame begins, its slot, how many frames
+ * wait, and of each of the 32 slots the frame's length and its clock reading at arrival. */
+enum {
+    PELGRANT_QUEUE_HEAD = 0,
+    PELGRANT_QUEUE_FIRST = 1,
+    PELGRANT_QUEUE_COUNT = 2,
+    PELGRANT_QUEUE_LENGTHS = 3,
+    PELGRANT_QUEUE_CLOCKS = 35
+};
 
 /* What a watch is told of: time passing, a reading of the four bits, a signalling frame taken. */
 enum { PELGRANT_PASSING = 0, PELGRANT_READING = 1, PELGRANT_FRAME_TAKEN = 2 };
@@ -242,6 +261,40 @@ uint8_t pelgrant_line_add(uint8_t *line, size_t line_len, size_t count, const ui
  * Untouched: line; the rest of out; where refused or without a frame, all of it. */
 uint8_t pelgrant_line_next(const uint8_t *line, size_t line_len, size_t count, size_t place,
     uint8_t *out, size_t out_len, uint64_t *answer, size_t answer_len);
+
+/* Makes an empty queue: every number 0.
+ * Lent: queue, exactly 67 numbers.
+ * Back: the queue.
+ * Refusals: 14 where queue_len is not 67.
+ * Untouched: where refused, the queue. */
+uint8_t pelgrant_queue_fresh(uint32_t *queue, size_t queue_len);
+
+/* A frame enters the waiting room, behind those that wait.
+ * Lent: the store; the queue; the frame; clock, a reading of the 32-bit millisecond clock at its arrival.
+ * Back: the frame in the store, behind the last one; the queue with COUNT one more and, in the slot after
+ *   the last one's, the frame's length and the reading.
+ * Refusals: 14 where the store is longer than 16,384 octets, queue_len is not 67, a length in any slot is
+ *   above 255, COUNT is above 32, FIRST above 31, HEAD past the store's end, or the lengths of those that
+ *   wait are together more than the store's; then 1, 2, 3, 24, 4, 5, 6 (voice only), 7, 8, 9; 25 where 32
+ *   are waiting, or where their lengths and the frame's own are together more than the store's.
+ * Untouched: frame; every octet of the store and every number of the queue not named above; where
+ *   refused, all of both. */
+uint8_t pelgrant_queue_enter(uint8_t *store, size_t store_len, uint32_t *queue, size_t queue_len,
+    const uint8_t *frame, size_t frame_len, uint32_t clock);
+
+/* The first frame that waits is sent on as pelgrant_forward does it, its wait running from its reading at
+ * arrival to the present one, which may have rolled over, and leaves the waiting room.
+ * Lent: the store; the queue; to, the present reading; level, 0 to 3; the outgoing address; out, for the
+ *   frame sent on.
+ * Back: answer[0] the length of the frame sent on; that frame in out; the queue with COUNT one less, FIRST
+ *   the next slot (0 after 31), and HEAD further by the frame's length as it waited, less the store's
+ *   length where the sum is not below it.
+ * Refusals: 16 (answer), 14 as for pelgrant_queue_enter, 26 where nothing waits, then those of
+ *   pelgrant_forward: 10, 15, 1, 2, 3, 24, 4, 5, 6 (voice only), 7, 8, 9, 16. The frame then waits on.
+ * Untouched: store; every number of the queue not named above; the rest of out; where refused, all of the
+ *   queue and of out. */
+uint8_t pelgrant_queue_take(const uint8_t *store, size_t store_len, uint32_t *queue, size_t queue_len,
+    uint32_t to, uint8_t level, uint16_t address, uint8_t *out, size_t out_len, uint64_t *answer, size_t answer_len);
 
 #ifdef __cplusplus
 }

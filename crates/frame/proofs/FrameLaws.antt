@@ -1,8 +1,9 @@
 -- How the orders are judged in steps, and what is known of a frame that nothing refuses, both ways.
-use Prim.Native.Nat.{ℕ, _%_, _≤_}
+use Prim.Native.Nat.{ℕ, _+_, _-_, _*_, _%_, _≤_}
 use mathlib.Core.Path.{_≡_, refl, sym, ap, ap₂, _∙_}
 use mathlib.Core.Bool.{Bool, true, false, _&&_, _||_, not, cond}
 use mathlib.Core.List.{List}
+use native.Mathlib.Omega.{arith}
 use lib.Dec.{ltb, eqb}
 use lib.ListN.{length}
 use borrow.Author.Tests.{ltb-false, eqb-true, le-ltb, eq-eqb, not-false}
@@ -11,7 +12,8 @@ use Rattle.octets.proofs.BoolLaws.{or-false}
 use Rattle.refusals.specs.Refusals.{_orElse_, refuse, addressBad, refusal1}
 use Rattle.refusals.proofs.RefusalLaws.{orElse-zero, orElse-take, orElse-pass, orElse-assoc, refuse-zero, in-range, range-in}
 use Rattle.fcs.specs.Fcs.{fcsGood}
-use Rattle.coding.specs.Coding.{droppableBits, reserved}
+use Rattle.coding.specs.Coding.{sampleBits, droppableBits, reserved}
+use Rattle.coding.proofs.CodingLaws.{s-le-8}
 use Rattle.frame.specs.Fields.{address, commandBit, pollBit, control, isVoice, fieldM, fieldC, stamp, coding, covered}
 use Rattle.frame.specs.Orders.{refusal2, refusal3, refusal24, refusal4, refusal5, refusal7, refusal8, refusal9, refusal19, legalLength, linkRefusal, layoutRefusal, takenRefusal, voiceRefusal, signalRefusal}
 
@@ -187,6 +189,15 @@ layout-passed f p = simp (eq-eqb _ _ (p .m-is-d), le-ltb _ _ (p .c-le-m), eq-eqb
 pub passed : (f : List ℕ) → Passes f → takenRefusal f ≡ 0
 unfolding takenRefusal
 passed f p = simp (link-passed f (p .linked), p .coded, layout-passed f (p .laid))
+
+-- a frame that a node takes is at most 138 octets long
+most : (v r : Bool) (n S d : ℕ) → S ≤ 8 → n ≡ cond v (cond r 0 (16 * (S - d) + 10)) 10 → n ≤ 138
+most true true n S d h e = omega arith
+most true false n S d h e = omega arith
+most false r n S d h e = omega arith
+
+pub taken-short : (f : List ℕ) → takenRefusal f ≡ 0 → length f ≤ 138
+taken-short f h = most (isVoice f) (reserved (coding f)) (length f) (sampleBits (coding f)) (fieldM f - fieldC f) (s-le-8 (coding f)) (passes f h .laid .size)
 
 -- a voice frame that a node takes, a voice call takes, and the reverse
 pub voice-taken : (f : List ℕ) → voiceRefusal f ≡ 0 → Passes f × (isVoice f ≡ true)

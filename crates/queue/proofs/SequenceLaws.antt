@@ -1,0 +1,84 @@
+-- Any sequence of calls answers as a plain list would, and leaves waiting what the list has.
+use Prim.Native.Nat.{ℕ, _≤_}
+use mathlib.Core.Path.{_≡_, refl, ap, ap₂, _∙_}
+use mathlib.Core.List.{List, [], _∷_}
+use native.Mathlib.Omega.{arith}
+use lib.ListN.{length}
+use borrow.Author.Tests.{le-ltb}
+use Rattle.refusals.specs.Refusals.{_orElse_, ifTaken}
+use Rattle.frame.specs.Orders.{takenRefusal}
+use Rattle.onward.specs.declared.Sent.{Sent}
+use Rattle.ring.specs.Ring.{turned}
+use Rattle.queue.specs.Plain.{Kept, refusal25, refusal26, firstAnswer, firstBuffer, entered, left}
+use Rattle.queue.specs.Waiting.{cut, sum, waiting, outside, refusal14}
+use Rattle.queue.specs.Calls.{freshQueue, enterRefusal, enterAnswer, enterStore, takeSent, takeBuffer, takeAnswer}
+use Rattle.queue.specs.Sequence.{Call, Comes, Goes, Answer, came, went, answer, storeAfter, queueAfter, answers, plainEnter, plainSent, plainAnswer, plainAfter, plainAnswers, afterAll, plainAfterAll, Lets}
+use Rattle.queue.specs.declared.Queue.{Queue}
+use Rattle.queue.proofs.EnterLaws.{store-size, enter-waits, enter-lets}
+use Rattle.queue.proofs.TakeLaws.{take-waits, take-lets}
+
+module _ (s : List ℕ) (q : Queue) (l : Lets (length s) q) where
+  -- past 14 the orders are the list's
+  enter-plain : (f : List ℕ) → enterRefusal s q f ≡ plainEnter (length s) (waiting s q) f
+  unfolding enterRefusal
+  enter-plain f = ap (λ (r : ℕ). r orElse takenRefusal f orElse refusal25 (length s) (waiting s q) f) (l .inside)
+
+  sent-plain : (to level addr : ℕ) (out : List ℕ) → takeSent s q to level addr out ≡ plainSent (waiting s q) to level addr out
+  unfolding takeSent
+  sent-plain to level addr out =
+      ap (λ (r : ℕ). ifTaken (r orElse refusal26 (waiting s q)) (firstAnswer (waiting s q) to level addr out) (record { refusal = r orElse refusal26 (waiting s q); length = 0 })) (l .inside)
+
+  pub answer-plain : (c : Call) → answer s q c ≡ plainAnswer (length s) (waiting s q) c
+  unfolding answer plainAnswer takeBuffer
+  answer-plain (Comes f clock) = ap came (enter-plain f)
+  answer-plain (Goes to level addr out) =
+      ap₂ went (sent-plain to level addr out) (ap (λ (r : ℕ). ifTaken (r orElse refusal26 (waiting s q)) (firstBuffer (waiting s q) to level addr out) out) (l .inside))
+
+  pub after-plain : (c : Call) → waiting (storeAfter s q c) (queueAfter s q c) ≡ plainAfter (length s) (waiting s q) c
+  unfolding storeAfter queueAfter plainAfter
+  after-plain (Comes f clock) =
+      enter-waits s q f (l .lengths-32) (l .clocks-32) clock ∙ ap (λ (r : ℕ). entered r (waiting s q) f clock) (enter-plain f)
+  after-plain (Goes to level addr out) =
+      take-waits s q (l .lengths-32) (l .clocks-32) to level addr out ∙ ap (λ (x : Sent). left (x .refusal) (waiting s q)) (sent-plain to level addr out)
+
+  size-after : (c : Call) → length (storeAfter s q c) ≡ length s
+  unfolding storeAfter
+  size-after (Comes f clock) = store-size s q f (l .lengths-32) (l .clocks-32)
+  size-after (Goes to level addr out) = refl
+
+  pub lets-after : (c : Call) → Lets (length (storeAfter s q c)) (queueAfter s q c)
+  unfolding storeAfter queueAfter
+  lets-after (Comes f clock) = enter-lets s q f (l .lengths-32) (l .clocks-32) clock l
+  lets-after (Goes to level addr out) = take-lets s q (l .lengths-32) (l .clocks-32) to level addr out l
+
+-- the answers of any sequence of calls are those of the plain list: 25 comes exactly where the list has no room, so that none is lost
+pub as-a-list : (cs : List Call) (s : List ℕ) (q : Queue) → Lets (length s) q → answers s q cs ≡ plainAnswers (length s) (waiting s q) cs
+unfolding answers plainAnswers
+as-a-list [] s q l = refl
+as-a-list (c ∷ cs) s q l =
+    ap₂ (λ (a : Answer) (more : List Answer). a ∷ more) (answer-plain s q l c)
+    (as-a-list cs (storeAfter s q c) (queueAfter s q c) (lets-after s q l c) ∙ ap₂ (λ (n : ℕ) (w : List Kept). plainAnswers n w cs) (size-after s q l c) (after-plain s q l c))
+
+-- and what waits in the end is what the list has
+pub left-as-a-list : (cs : List Call) (s : List ℕ) (q : Queue) → Lets (length s) q → afterAll s q cs ≡ plainAfterAll (length s) (waiting s q) cs
+unfolding afterAll plainAfterAll
+left-as-a-list [] s q l = refl
+left-as-a-list (c ∷ cs) s q l =
+    left-as-a-list cs (storeAfter s q c) (queueAfter s q c) (lets-after s q l c) ∙ ap₂ (λ (n : ℕ) (w : List Kept). plainAfterAll n w cs) (size-after s q l c) (after-plain s q l c)
+
+-- a fresh record holds nothing, in any store of at most 16,384 octets
+pub fresh-empty : (s : List ℕ) → waiting s freshQueue ≡ []
+unfolding waiting cut
+fresh-empty s = refl
+
+pub fresh-lets : (n : ℕ) → n ≤ 16384 → Lets n freshQueue
+unfolding outside sum
+fresh-lets n h = record { lengths-32 = refl; clocks-32 = refl; inside = simp (le-ltb 16384 n h, le-ltb n 0 (omega arith)) }
+
+-- from a fresh record on
+pub from-fresh : (s : List ℕ) (cs : List Call) → length s ≤ 16384
+    → (answers s freshQueue cs ≡ plainAnswers (length s) [] cs) × (afterAll s freshQueue cs ≡ plainAfterAll (length s) [] cs)
+from-fresh s cs h = (
+  as-a-list cs s freshQueue (fresh-lets (length s) h) ∙ ap (λ (w : List Kept). plainAnswers (length s) w cs) (fresh-empty s),
+  left-as-a-list cs s freshQueue (fresh-lets (length s) h) ∙ ap (λ (w : List Kept). plainAfterAll (length s) w cs) (fresh-empty s),
+)

@@ -1,0 +1,93 @@
+use mathlib.Core.Path.{_≡_}
+use native.Mathlib.Omega.{arith}
+use borrow.Author.Needs.{needs}
+use Rattle.queue.proofs.EnterLaws.{Met, met, Slotted, slotted, entry-refused, entry-done}
+use Rattle.queue.proofs.enter.Statement.{statement}
+use Rattle.queue.proofs.enter.Tie as tie
+
+abbrev start : tie.After-struct-known → tie.Start
+start k = k .before .before .before .before .before .before .before .before .before .before .before .before
+
+abbrev spot : tie.After-struct-known → tie.After-enter-by
+spot k = k .before .before .before
+
+made : (k : tie.After-struct-known) → Met (start k .args .store .now) (start k .args .q) (start k .args .frame .now) (spot k .enter-by .result) (spot k .enter-by .last .0)
+made k =
+    let v = spot k .enter-by in
+    let w = k .before .before .before .before .before .before .before .before .widened in
+    let r = k .before .before .before .before .before .before .readings in
+    let a = start k .args in
+    met (a .store .now) (a .q) (a .frame .now) (v .result) (v .last .0) (w .result) (r .result) (w .ensures .0) (w .ensures .1 .all) (r .ensures .0) (r .ensures .1) (v .ensures .0) (v .ensures .1)
+
+room : (c : tie.Else1) → Slotted (start (c .before) .args .q) (start (c .before) .args .frame .now) (spot (c .before) .enter-by .result .slot)
+room c =
+    let k = c .before in
+    let a = start k .args in
+    slotted (a .store .now) (a .q) (a .frame .now) (a .clock) (spot k .enter-by .result) (spot k .enter-by .last .0) (made k) (c .if1 .left)
+
+widened-requires : tie.Need-widened-requires
+widened-requires c κs = tt
+
+readings-requires : tie.Need-readings-requires
+readings-requires c κs = tt
+
+slice-aggregate-enter-by : tie.Need-slice-aggregate-enter-by
+slice-aggregate-enter-by c = search needs
+
+enter-by-requires : tie.Need-enter-by-requires
+enter-by-requires c κs = c .before .before .before .before .widened .ensures .1
+
+same-length : tie.Need-same-length
+same-length c = search needs
+
+returns : tie.Need-returns
+returns c =
+    let k = c .before in
+    let a = start k .args in
+    entry-refused (a .store .now) (a .q) (a .frame .now) (a .clock) (spot k .enter-by .result) (spot k .enter-by .last .0) (made k) (c .if1 .taken)
+
+cast-slot : tie.Need-cast-slot
+cast-slot c = search needs
+
+cast-lengths : tie.Need-cast-lengths
+cast-lengths c = omega (arith, room (c .before) .short)
+
+array-write-lengths : tie.Need-array-write-lengths
+array-write-lengths c = room (c .before) .below
+
+mul-clocks : tie.Need-mul-clocks
+mul-clocks c = search needs
+
+array-write-clocks : tie.Need-array-write-clocks
+array-write-clocks c = room (c .before) .below
+
+add-t24 : tie.Need-add-t24
+add-t24 c = omega (arith, room (c .before .before) .few)
+
+same-length-2 : tie.Need-same-length-2
+same-length-2 c = search needs
+
+returns-2 : tie.Need-returns-2
+returns-2 c =
+    let k = c .before .before .before in
+    let a = start k .args in
+    entry-done (a .store .now) (a .q) (a .frame .now) (a .clock) (spot k .enter-by .result) (spot k .enter-by .last .0) (made k) (c .before .before .if1 .left)
+
+pub enter-spec : {M : Type 1} → statement M
+enter-spec =
+    tie.close
+    (tie.spec
+    widened-requires
+    readings-requires
+    slice-aggregate-enter-by
+    enter-by-requires
+    same-length
+    returns
+    cast-slot
+    cast-lengths
+    array-write-lengths
+    mul-clocks
+    array-write-clocks
+    add-t24
+    same-length-2
+    returns-2)

@@ -1,0 +1,5 @@
+pub mod Plain
+pub mod Waiting
+pub mod Calls
+pub mod Sequence
+pub mod Parts

@@ -1,0 +1,83 @@
+-- Request A6: any sequence of calls, store and record being handed to each call as the last one left them, and the same calls on a plain list.
+use Prim.Native.Nat.{ℕ}
+use mathlib.Core.Path.{_≡_}
+use mathlib.Core.List.{List, [], _∷_}
+use lib.ListN.{length}
+use Rattle.refusals.specs.Refusals.{_orElse_, ifTaken}
+use Rattle.frame.specs.Orders.{takenRefusal}
+use Rattle.onward.specs.declared.Sent.{Sent}
+use Rattle.queue.specs.Plain.{Kept, refusal25, refusal26, firstAnswer, firstBuffer, entered, left}
+use Rattle.queue.specs.Waiting.{waiting, refusal14}
+use Rattle.queue.specs.Calls.{enterRefusal, enterAnswer, enterStore, takeSent, takeAnswer, takeBuffer}
+use Rattle.queue.specs.declared.Queue.{Queue}
+
+-- a frame comes at a clock reading; or the first is to go, with the present reading, level, outgoing address and buffer
+pub data Call : Type 0 where
+  Comes : List ℕ → ℕ → Call
+  Goes : ℕ → ℕ → ℕ → List ℕ → Call
+
+-- what the host sees of a call: the refusal, the length sent on, and what its buffer then holds
+pub record Answer : Type 0 where
+  pub refusal : ℕ
+  pub length : ℕ
+  pub buffer : List ℕ
+
+abbrev pub came : ℕ → Answer
+came refusal = record { refusal = refusal; length = 0; buffer = [] }
+
+abbrev pub went : Sent → List ℕ → Answer
+went sent buffer = record { refusal = sent .refusal; length = sent .length; buffer = buffer }
+
+-- on a store and a record
+unfoldable pub answer : List ℕ → Queue → Call → Answer
+answer s q (Comes f clock) = came (enterRefusal s q f)
+answer s q (Goes to level addr out) = went (takeSent s q to level addr out) (takeBuffer s q to level addr out)
+
+unfoldable pub storeAfter : List ℕ → Queue → Call → List ℕ
+storeAfter s q (Comes f clock) = enterStore s q f
+storeAfter s q (Goes to level addr out) = s
+
+unfoldable pub queueAfter : List ℕ → Queue → Call → Queue
+queueAfter s q (Comes f clock) = enterAnswer s q f clock .after
+queueAfter s q (Goes to level addr out) = takeAnswer s q to level addr out .after
+
+unfoldable pub answers : List ℕ → Queue → List Call → List Answer
+answers s q [] = []
+answers s q (c ∷ cs) = answer s q c ∷ answers (storeAfter s q c) (queueAfter s q c) cs
+
+-- what waits after all of them
+unfoldable pub afterAll : List ℕ → Queue → List Call → List Kept
+afterAll s q [] = waiting s q
+afterAll s q (c ∷ cs) = afterAll (storeAfter s q c) (queueAfter s q c) cs
+
+-- on a plain list, with room for n octets
+abbrev pub plainEnter : ℕ → List Kept → List ℕ → ℕ
+plainEnter n w f = takenRefusal f orElse refusal25 n w f
+
+abbrev pub plainSent : List Kept → ℕ → ℕ → ℕ → List ℕ → Sent
+plainSent w to level addr out = ifTaken (refusal26 w) (firstAnswer w to level addr out) (record { refusal = refusal26 w; length = 0 })
+
+abbrev pub plainBuffer : List Kept → ℕ → ℕ → ℕ → List ℕ → List ℕ
+plainBuffer w to level addr out = ifTaken (refusal26 w) (firstBuffer w to level addr out) out
+
+unfoldable pub plainAnswer : ℕ → List Kept → Call → Answer
+plainAnswer n w (Comes f clock) = came (plainEnter n w f)
+plainAnswer n w (Goes to level addr out) = went (plainSent w to level addr out) (plainBuffer w to level addr out)
+
+unfoldable pub plainAfter : ℕ → List Kept → Call → List Kept
+plainAfter n w (Comes f clock) = entered (plainEnter n w f) w f clock
+plainAfter n w (Goes to level addr out) = left (plainSent w to level addr out .refusal) w
+
+unfoldable pub plainAnswers : ℕ → List Kept → List Call → List Answer
+plainAnswers n w [] = []
+plainAnswers n w (c ∷ cs) = plainAnswer n w c ∷ plainAnswers n (plainAfter n w c) cs
+
+unfoldable pub plainAfterAll : ℕ → List Kept → List Call → List Kept
+plainAfterAll n w [] = w
+plainAfterAll n w (c ∷ cs) = plainAfterAll n (plainAfter n w c) cs
+
+-- what 14 lets by, of a record as every one is: 32 slots, each with a length and a reading
+pub record Lets (n : ℕ) (q : Queue) : Type 0 where
+  pub lengths-32 : length (q .lengths) ≡ 32
+  pub clocks-32 : length (q .clocks) ≡ 32
+  pub inside : refusal14 n q ≡ 0

@@ -1,0 +1,43 @@
+-- Request A6: how a store and a record hold the plain list. The frames lie in the store one behind the other, from the record's first place on and round the
+-- store's end; their lengths and clock readings stand in the record's slots, from its first slot on and round the last.
+use Prim.Native.Nat.{ℕ, _+_}
+use mathlib.Core.Bool.{Bool, _||_}
+use mathlib.Core.List.{List, [], _∷_}
+use lib.Dec.{ltb}
+use lib.ListN.{length, take, drop}
+use Rattle.refusals.specs.Refusals.{refuse}
+use Rattle.ring.specs.Ring.{turned}
+use Rattle.queue.specs.Plain.{Kept, kept}
+use Rattle.queue.specs.declared.Queue.{Queue}
+
+-- the slots in use
+abbrev pub lengthsOf : Queue → List ℕ
+lengthsOf q = take (q .count) (turned (q .first) (q .lengths))
+
+abbrev pub clocksOf : Queue → List ℕ
+clocksOf q = take (q .count) (turned (q .first) (q .clocks))
+
+-- octets cut into frames of the given lengths, each with its reading
+unfoldable pub cut : List ℕ → List ℕ → List ℕ → List Kept
+cut octets [] clocks = []
+cut octets (l ∷ ls) [] = []
+cut octets (l ∷ ls) (c ∷ clocks) = kept (take l octets) c ∷ cut (drop l octets) ls clocks
+
+-- what waits
+unfoldable pub waiting : List ℕ → Queue → List Kept
+waiting s q = cut (turned (q .head) s) (lengthsOf q) (clocksOf q)
+
+unfoldable pub sum : List ℕ → ℕ
+sum [] = 0
+sum (l ∷ ls) = l + sum ls
+
+-- a store of n octets over 16,384, a record past 32 frames, or one whose first place is not within the store
+abbrev pub misplaced : ℕ → Queue → Bool
+misplaced n q = ltb 16384 n || ltb 32 (q .count) || ltb 31 (q .first) || ltb n (q .head)
+
+-- or whose frames are not
+unfoldable pub outside : ℕ → Queue → Bool
+outside n q = misplaced n q || ltb n (sum (lengthsOf q))
+
+abbrev pub refusal14 : ℕ → Queue → ℕ
+refusal14 n q = refuse (outside n q) 14
