@@ -1,6 +1,2 @@
-pub mod CutLaws
-pub mod SumLaws
-pub mod InsideLaws
-pub mod EnterLaws
-pub mod TakeLaws
+pub mod AnswerLaws
 pub mod SequenceLaws

@@ -8,14 +8,15 @@ use borrow.Author.Tests.{le-ltb}
 use Rattle.refusals.specs.Refusals.{_orElse_, ifTaken}
 use Rattle.frame.specs.Orders.{takenRefusal}
 use Rattle.onward.specs.declared.Sent.{Sent}
-use Rattle.ring.specs.Ring.{turned}
-use Rattle.queue.specs.Plain.{Kept, refusal25, refusal26, firstAnswer, firstBuffer, entered, left}
-use Rattle.queue.specs.Waiting.{cut, sum, waiting, outside, refusal14}
-use Rattle.queue.specs.Calls.{freshQueue, enterRefusal, enterAnswer, enterStore, takeSent, takeBuffer, takeAnswer}
-use Rattle.queue.specs.Sequence.{Call, Comes, Goes, Answer, came, went, answer, storeAfter, queueAfter, answers, plainEnter, plainSent, plainAnswer, plainAfter, plainAnswers, afterAll, plainAfterAll, Lets}
-use Rattle.queue.specs.declared.Queue.{Queue}
-use Rattle.queue.proofs.EnterLaws.{store-size, enter-waits, enter-lets}
-use Rattle.queue.proofs.TakeLaws.{take-waits, take-lets}
+use Rattle.ring.specs.Ring.{turned, sum}
+use Rattle.room.specs.Plain.{Kept, refusal25, refusal26, firstAnswer, firstBuffer, entered, left}
+use Rattle.room.specs.Waiting.{cut, waiting, outside, refusal14, Lets}
+use Rattle.room.specs.Rules.{enterRefusal, takeSent, takeBuffer}
+use Rattle.room.specs.declared.Queue.{Queue}
+use Rattle.queue.specs.Calls.{freshQueue, enterAnswer, takeAnswer}
+use Rattle.queue.specs.Sequence.{Call, Comes, Goes, Answer, came, went, answer, storeAfter, queueAfter, answers, plainEnter, plainSent, plainAnswer, plainAfter, plainAnswers, afterAll, plainAfterAll}
+use Rattle.room.proofs.EnterLaws.{store-size, enter-waits, enter-lets}
+use Rattle.room.proofs.TakeLaws.{take-waits, take-lets}
 
 module _ (s : List ℕ) (q : Queue) (l : Lets (length s) q) where
   -- past 14 the orders are the list's
@@ -29,13 +30,13 @@ module _ (s : List ℕ) (q : Queue) (l : Lets (length s) q) where
       ap (λ (r : ℕ). ifTaken (r orElse refusal26 (waiting s q)) (firstAnswer (waiting s q) to level addr out) (record { refusal = r orElse refusal26 (waiting s q); length = 0 })) (l .inside)
 
   pub answer-plain : (c : Call) → answer s q c ≡ plainAnswer (length s) (waiting s q) c
-  unfolding answer plainAnswer takeBuffer
+  unfolding answer plainAnswer takeBuffer enterAnswer takeAnswer
   answer-plain (Comes f clock) = ap came (enter-plain f)
   answer-plain (Goes to level addr out) =
-      ap₂ went (sent-plain to level addr out) (ap (λ (r : ℕ). ifTaken (r orElse refusal26 (waiting s q)) (firstBuffer (waiting s q) to level addr out) out) (l .inside))
+      ap₂ (λ (x : Sent) (b : List ℕ). went (x .refusal) (x .length) b) (sent-plain to level addr out) (ap (λ (r : ℕ). ifTaken (r orElse refusal26 (waiting s q)) (firstBuffer (waiting s q) to level addr out) out) (l .inside))
 
   pub after-plain : (c : Call) → waiting (storeAfter s q c) (queueAfter s q c) ≡ plainAfter (length s) (waiting s q) c
-  unfolding storeAfter queueAfter plainAfter
+  unfolding storeAfter queueAfter plainAfter enterAnswer takeAnswer
   after-plain (Comes f clock) =
       enter-waits s q f (l .lengths-32) (l .clocks-32) clock ∙ ap (λ (r : ℕ). entered r (waiting s q) f clock) (enter-plain f)
   after-plain (Goes to level addr out) =
@@ -47,7 +48,7 @@ module _ (s : List ℕ) (q : Queue) (l : Lets (length s) q) where
   size-after (Goes to level addr out) = refl
 
   pub lets-after : (c : Call) → Lets (length (storeAfter s q c)) (queueAfter s q c)
-  unfolding storeAfter queueAfter
+  unfolding storeAfter queueAfter enterAnswer takeAnswer
   lets-after (Comes f clock) = enter-lets s q f (l .lengths-32) (l .clocks-32) clock l
   lets-after (Goes to level addr out) = take-lets s q (l .lengths-32) (l .clocks-32) to level addr out l
 

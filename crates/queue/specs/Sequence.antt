@@ -1,15 +1,14 @@
 -- Request A6: any sequence of calls, store and record being handed to each call as the last one left them, and the same calls on a plain list.
 use Prim.Native.Nat.{ℕ}
-use mathlib.Core.Path.{_≡_}
 use mathlib.Core.List.{List, [], _∷_}
-use lib.ListN.{length}
 use Rattle.refusals.specs.Refusals.{_orElse_, ifTaken}
 use Rattle.frame.specs.Orders.{takenRefusal}
 use Rattle.onward.specs.declared.Sent.{Sent}
-use Rattle.queue.specs.Plain.{Kept, refusal25, refusal26, firstAnswer, firstBuffer, entered, left}
-use Rattle.queue.specs.Waiting.{waiting, refusal14}
-use Rattle.queue.specs.Calls.{enterRefusal, enterAnswer, enterStore, takeSent, takeAnswer, takeBuffer}
-use Rattle.queue.specs.declared.Queue.{Queue}
+use Rattle.room.specs.Plain.{Kept, refusal25, refusal26, firstAnswer, firstBuffer, entered, left}
+use Rattle.room.specs.Waiting.{waiting}
+use Rattle.room.specs.Rules.{enterStore, takeBuffer}
+use Rattle.room.specs.declared.Queue.{Queue}
+use Rattle.queue.specs.Calls.{enterAnswer, takeAnswer}
 
 -- a frame comes at a clock reading; or the first is to go, with the present reading, level, outgoing address and buffer
 pub data Call : Type 0 where
@@ -25,13 +24,13 @@ pub record Answer : Type 0 where
 abbrev pub came : ℕ → Answer
 came refusal = record { refusal = refusal; length = 0; buffer = [] }
 
-abbrev pub went : Sent → List ℕ → Answer
-went sent buffer = record { refusal = sent .refusal; length = sent .length; buffer = buffer }
+abbrev pub went : ℕ → ℕ → List ℕ → Answer
+went refusal length buffer = record { refusal = refusal; length = length; buffer = buffer }
 
 -- on a store and a record
 unfoldable pub answer : List ℕ → Queue → Call → Answer
-answer s q (Comes f clock) = came (enterRefusal s q f)
-answer s q (Goes to level addr out) = went (takeSent s q to level addr out) (takeBuffer s q to level addr out)
+answer s q (Comes f clock) = came (enterAnswer s q f clock .refusal)
+answer s q (Goes to level addr out) = went (takeAnswer s q to level addr out .refusal) (takeAnswer s q to level addr out .length) (takeBuffer s q to level addr out)
 
 unfoldable pub storeAfter : List ℕ → Queue → Call → List ℕ
 storeAfter s q (Comes f clock) = enterStore s q f
@@ -62,7 +61,7 @@ plainBuffer w to level addr out = ifTaken (refusal26 w) (firstBuffer w to level 
 
 unfoldable pub plainAnswer : ℕ → List Kept → Call → Answer
 plainAnswer n w (Comes f clock) = came (plainEnter n w f)
-plainAnswer n w (Goes to level addr out) = went (plainSent w to level addr out) (plainBuffer w to level addr out)
+plainAnswer n w (Goes to level addr out) = went (plainSent w to level addr out .refusal) (plainSent w to level addr out .length) (plainBuffer w to level addr out)
 
 unfoldable pub plainAfter : ℕ → List Kept → Call → List Kept
 plainAfter n w (Comes f clock) = entered (plainEnter n w f) w f clock
@@ -75,9 +74,3 @@ plainAnswers n w (c ∷ cs) = plainAnswer n w c ∷ plainAnswers n (plainAfter n
 unfoldable pub plainAfterAll : ℕ → List Kept → List Call → List Kept
 plainAfterAll n w [] = w
 plainAfterAll n w (c ∷ cs) = plainAfterAll n (plainAfter n w c) cs
-
--- what 14 lets by, of a record as every one is: 32 slots, each with a length and a reading
-pub record Lets (n : ℕ) (q : Queue) : Type 0 where
-  pub lengths-32 : length (q .lengths) ≡ 32
-  pub clocks-32 : length (q .clocks) ≡ 32
-  pub inside : refusal14 n q ≡ 0

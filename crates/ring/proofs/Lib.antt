@@ -1,2 +1,4 @@
 pub mod RingLaws
 pub mod CopyLaws
+pub mod SumLaws
+pub mod SlotLaws

@@ -1,9 +1,10 @@
 -- Request A6: places in a ring, where the first comes again after the last.
-use Prim.Native.Nat.{ℕ, _+_, _-_}
+use Prim.Native.Nat.{ℕ, _+_, _-_, _<_}
+use mathlib.Core.Path.{_≡_}
 use mathlib.Core.Bool.{cond}
-use mathlib.Core.List.{List, _++_}
+use mathlib.Core.List.{List, [], _∷_, _++_}
 use lib.Dec.{ltb}
-use lib.ListN.{length, take, drop}
+use lib.ListN.{length, take, drop, getD}
 
 -- the place `ahead` places after `at`, of n
 abbrev pub placeAfter : ℕ → ℕ → ℕ → ℕ
@@ -16,3 +17,16 @@ turned at s = drop at s ++ take at s
 -- the ring with x from a place on: turned there, x put over what is at the front, and turned back
 unfoldable pub laid : ℕ → List ℕ → List ℕ → List ℕ
 laid at x s = turned (length s - at) (x ++ drop (length x) (turned at s))
+
+-- what `count` places hold, from a place on
+abbrev pub used : ℕ → ℕ → List ℕ → List ℕ
+used first count xs = take count (turned first xs)
+
+unfoldable pub sum : List ℕ → ℕ
+sum [] = 0
+sum (x ∷ xs) = x + sum xs
+
+-- a ring of 32 octets
+pub record Slots (xs : List ℕ) : Type 0 where
+  pub all : length xs ≡ 32
+  pub octets : (i : ℕ) → getD xs i 0 < 256

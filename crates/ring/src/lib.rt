@@ -1,8 +1,9 @@
-// A lent store as a ring: octets laid from a place on, round the store's end, and read back.
+// Rings: octets laid into a lent store from a place on, round its end, and read back; and the slots in use of 32, added.
 ghost use mathlib.Core.Path.{_≡_};
+ghost use mathlib.Core.Bool.{cond};
 ghost use Prim.Native.Nat.{_+_, _<_, _≤_, _^_};
 ghost use lib.ListN.{length, take};
-ghost use Rattle.ring.specs.Ring.{placeAfter, turned, laid};
+ghost use Rattle.ring.specs.Ring.{placeAfter, turned, laid, used, sum, Slots};
 use octets::lesser;
 
 // The place `ahead` places after `at`, of n. What stands in a record has been judged before it comes here.
@@ -35,4 +36,25 @@ pub fn gather(store: &[u8], at: usize, n: usize) -> [u8; 255]
     octets::copy(&store[at..at + k], &mut part);
     octets::copy(&store[0..n - k], &mut part[k..]);
     part
+}
+
+fn one_if(holds: bool) -> u32
+    ensures { λ r. ⌜ r ≡ cond holds 1 0 ⌝ }
+{
+    if holds { 1 } else { 0 }
+}
+
+// The slots in use, added. All 32 are looked at, however many are in use, and no branch depends on them.
+pub fn sum_used(slots: &[u32], first: u32, count: u32) -> u32
+    requires { ⌜ Slots (now slots) × (first < 32) × (count ≤ 32) ⌝ }
+    ensures { λ r. ⌜ (r ≡ sum (used first count (now (slots .entry)))) × (r < 8192) ⌝ }
+{
+    let mut added: u32 = 0;
+    let mut i: u32 = 0;
+    while i < 32 {
+        let counts = one_if((i + 32 - first) % 32 < count);
+        added += slots[i as usize] * counts;
+        i += 1;
+    }
+    added
 }

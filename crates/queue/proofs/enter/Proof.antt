@@ -1,7 +1,7 @@
 use mathlib.Core.Path.{_≡_}
 use native.Mathlib.Omega.{arith}
 use borrow.Author.Needs.{needs}
-use Rattle.queue.proofs.EnterLaws.{Met, met, Slotted, slotted, entry-refused, entry-done}
+use Rattle.queue.proofs.AnswerLaws.{Met, met, Slotted, slotted, entry-refused, entry-done}
 use Rattle.queue.proofs.enter.Statement.{statement}
 use Rattle.queue.proofs.enter.Tie as tie
 

@@ -1,5 +1,5 @@
 use borrow.Author.Needs.{needs}
-use Rattle.queue.proofs.TakeLaws.{taken-by}
+use Rattle.queue.proofs.AnswerLaws.{taken-by}
 use Rattle.queue.proofs.take.Statement.{statement}
 use Rattle.queue.proofs.take.Tie as tie
 

@@ -6,7 +6,7 @@ use lib.ListN.{length, take, drop, getD, set}
 use mir.Syntax.{w8}
 use mir.Val.{Fits}
 use Rattle.octets.proofs.PartLaws.{copied-more}
-use Rattle.queue.proofs.SumLaws.{copied-whole}
+use Rattle.queue.proofs.AnswerLaws.{copied-whole}
 use borrow.Author.Needs.{needs}
 use Rattle.queue.proofs.widened.Statement.{statement}
 use Rattle.queue.proofs.widened.Tie as tie

@@ -13,19 +13,19 @@ use Rattle.refusals.specs.Refusals.{_orElse_, refuse, ifTaken}
 use Rattle.refusals.proofs.RefusalLaws.{orElse-zero, orElse-take, orElse-pass, refuse-zero, if-taken, if-refused}
 use Rattle.frame.specs.Orders.{takenRefusal}
 use Rattle.frame.proofs.FrameLaws.{taken-short}
-use Rattle.ring.specs.Ring.{placeAfter, turned, laid}
+use Rattle.ring.specs.Ring.{placeAfter, turned, laid, sum}
 use Rattle.ring.proofs.RingLaws.{turned-length, place-within, place-below, laid-after, laid-length}
-use Rattle.queue.specs.Plain.{Kept, kept, together, refusal25, entered}
-use Rattle.queue.specs.Waiting.{cut, sum, lengthsOf, clocksOf, waiting, outside, refusal14}
-use Rattle.queue.specs.Calls.{enterRefusal, withFrame, enterAnswer, enterStore}
-use Rattle.queue.specs.Sequence.{Lets}
-use Rattle.queue.specs.Parts.{bare, Judged, entryBy, spotBy, storeBy}
-use Rattle.queue.specs.declared.Queue.{Queue}
-use Rattle.queue.specs.declared.Room.{Room}
-use Rattle.queue.specs.declared.Spot.{Spot}
-use Rattle.queue.specs.declared.Entered.{Entered}
-use Rattle.queue.proofs.CutLaws.{cut-more, cut-snoc, sum-append}
-use Rattle.queue.proofs.InsideLaws.{by-first, by-taken, if-same, Inside, inside, let-by, used-more, as-many, waiting-count, waiting-together}
+use Rattle.ring.proofs.SumLaws.{sum-append}
+use Rattle.ring.proofs.SlotLaws.{used-more}
+use Rattle.room.specs.Plain.{Kept, kept, together, refusal25, entered}
+use Rattle.room.specs.Waiting.{cut, lengthsOf, clocksOf, waiting, refusal14, Lets}
+use Rattle.room.specs.Rules.{enterRefusal, withFrame, enterQueue, enterStore}
+use Rattle.room.specs.Parts.{bare, Judged, entryBy, spotBy, storeBy}
+use Rattle.room.specs.declared.Queue.{Queue}
+use Rattle.room.specs.declared.Held.{Held}
+use Rattle.room.specs.declared.Spot.{Spot}
+use Rattle.room.proofs.CutLaws.{cut-more, cut-snoc}
+use Rattle.room.proofs.InsideLaws.{by-first, by-taken, if-same, Inside, inside, let-by, as-many, waiting-count, waiting-together}
 
 module _ (s : List ℕ) (q : Queue) (f : List ℕ) (ll : length (q .lengths) ≡ 32) (lc : length (q .clocks) ≡ 32) where
   pub by-numbers : entryBy (length s) q f ≡ enterRefusal s q f
@@ -117,22 +117,22 @@ module _ (s : List ℕ) (q : Queue) (f : List ℕ) (ll : length (q .lengths) ≡
       by-taken (enterRefusal s q f) (λ z. ap length (stored z) ∙ same-size s q f 0 ll lc (let-in z)) (λ h. ap length (unstored h))
 
   module _ (clock : ℕ) where
-    with-it : enterRefusal s q f ≡ 0 → enterAnswer s q f clock .after ≡ withFrame q f clock
-    unfolding enterAnswer
+    with-it : enterRefusal s q f ≡ 0 → enterQueue s q f clock ≡ withFrame q f clock
+    unfolding enterQueue
     with-it z = if-taken (enterRefusal s q f) (withFrame q f clock) q z
 
-    without-it : (enterRefusal s q f ≡ 0 → ⊥) → enterAnswer s q f clock .after ≡ q
-    unfolding enterAnswer
+    without-it : (enterRefusal s q f ≡ 0 → ⊥) → enterQueue s q f clock ≡ q
+    unfolding enterQueue
     without-it h = if-refused (enterRefusal s q f) (withFrame q f clock) q h
 
-    pub enter-waits : waiting (enterStore s q f) (enterAnswer s q f clock .after) ≡ entered (enterRefusal s q f) (waiting s q) f clock
+    pub enter-waits : waiting (enterStore s q f) (enterQueue s q f clock) ≡ entered (enterRefusal s q f) (waiting s q) f clock
     enter-waits =
         by-taken (enterRefusal s q f)
         (λ z. ap₂ waiting (stored z) (with-it z) ∙ waits-behind s q f clock ll lc (let-in z) ∙ sym (if-taken (enterRefusal s q f) (waiting s q ++ kept f clock ∷ []) (waiting s q) z))
         (λ h. ap₂ waiting (unstored h) (without-it h) ∙ sym (if-refused (enterRefusal s q f) (waiting s q ++ kept f clock ∷ []) (waiting s q) h))
 
     -- what 14 lets by it lets by again
-    pub enter-lets : Lets (length s) q → Lets (length (enterStore s q f)) (enterAnswer s q f clock .after)
+    pub enter-lets : Lets (length s) q → Lets (length (enterStore s q f)) (enterQueue s q f clock)
     unfolding withFrame
     enter-lets l =
         by-taken (enterRefusal s q f)
@@ -145,7 +145,7 @@ module _ (s : List ℕ) (q : Queue) (f : List ℕ) (ll : length (q .lengths) ≡
         (λ h. rw (unstored h, without-it h) l)
 
 -- the order as the code judges it: each number where it stands
-module _ (n : ℕ) (q : Queue) (f : List ℕ) (k : Room) (j : Judged n q k) where
+module _ (n : ℕ) (q : Queue) (f : List ℕ) (k : Held) (j : Judged n q k) where
   pub at-14 : (k .refusal ≡ 0 → ⊥) → k .refusal ≡ entryBy n q f
   unfolding entryBy
   at-14 h = orElse-take _ _ (k .refusal) (j .number) h
@@ -201,70 +201,3 @@ ready n q f r u e z eu =
       used = lu;
       behind = place-within (q .head) u n (y .inside .place) lu;
     }
-
--- what entry by numbers has made, of a record whose lengths came as wider numbers; it does not look at the readings
-pub record Met (s : List ℕ) (q : Queue) (f : List ℕ) (spot : Spot) (t : List ℕ) : Type 0 where
-  pub lengths-32 : length (q .lengths) ≡ 32
-  pub clocks-32 : length (q .clocks) ≡ 32
-  pub spot-is : spot ≡ spotBy (length s) q f
-  pub store-by : t ≡ storeBy s q f
-
-pub met : (s : List ℕ) (q : Queue) (f : List ℕ) (spot : Spot) (t ls cs : List ℕ) → ls ≡ q .lengths → length ls ≡ 32 → cs ≡ q .clocks → length cs ≡ 32
-    → spot ≡ spotBy (length s) (bare (q .head) (q .first) (q .count) ls) f → t ≡ storeBy s (bare (q .head) (q .first) (q .count) ls) f → Met s q f spot t
-unfolding spotBy storeBy entryBy outside
-met s q f spot t ls cs el ll ec lc es et =
-    record {
-      lengths-32 = sym (ap length el) ∙ ll;
-      clocks-32 = sym (ap length ec) ∙ lc;
-      spot-is = es ∙ ap (λ (x : List ℕ). spotBy (length s) (bare (q .head) (q .first) (q .count) x) f) el;
-      store-by = et ∙ ap (λ (x : List ℕ). storeBy s (bare (q .head) (q .first) (q .count) x) f) el;
-    }
-
--- a slot for the frame
-pub record Slotted (q : Queue) (f : List ℕ) (slot : ℕ) : Type 0 where
-  pub after-last : slot ≡ placeAfter (q .first) (q .count) 32
-  pub below : slot < 32
-  pub short : length f ≤ 138
-  pub few : q .count < 32
-
-module _ (s : List ℕ) (q : Queue) (f : List ℕ) (clock : ℕ) (spot : Spot) (t : List ℕ) (m : Met s q f spot t) where
-  number : spot .refusal ≡ entryBy (length s) q f
-  unfolding spotBy
-  number = ap (λ (x : Spot). x .refusal) (m .spot-is)
-
-  pub slotted : spot .refusal ≡ 0 → Slotted q f (spot .slot)
-  unfolding spotBy
-  slotted z =
-      let y = roomy (length s) q f (sym number ∙ z) in
-      let e : spot .slot ≡ placeAfter (q .first) (q .count) 32 = ap (λ (x : Spot). x .slot) (m .spot-is) ∙ if-taken (entryBy (length s) q f) _ 0 (sym number ∙ z) in
-      record { after-last = e; below = rw e (place-below (q .first) (q .count) 32 (y .inside .slot) (omega (arith, y .few))); short = y .short; few = y .few }
-
-  -- an answer that is right leaves waiting what is right
-  outcome : (a : Entered) → a ≡ enterAnswer s q f clock
-      → (a ≡ enterAnswer s q f clock) × ((t ≡ enterStore s q f) × (waiting t (a .after) ≡ entered (a .refusal) (waiting s q) f clock))
-  unfolding enterAnswer
-  outcome a e =
-      let et′ : t ≡ enterStore s q f = m .store-by ∙ store-is s q f (m .lengths-32) (m .clocks-32) in (
-        e,
-        (et′, ap₂ (λ (x : List ℕ) (y : Entered). waiting x (y .after)) et′ e ∙ enter-waits s q f (m .lengths-32) (m .clocks-32) clock ∙ ap (λ (y : Entered). entered (y .refusal) (waiting s q) f clock) (sym e)),
-      )
-
-  pub entry-refused : (spot .refusal ≡ 0 → ⊥)
-      → (record { refusal = spot .refusal; after = q } ≡ enterAnswer s q f clock)
-      × ((t ≡ enterStore s q f) × (waiting t q ≡ entered (spot .refusal) (waiting s q) f clock))
-  unfolding enterAnswer
-  entry-refused h =
-      let e : spot .refusal ≡ enterRefusal s q f = number ∙ by-numbers s q f (m .lengths-32) (m .clocks-32) in
-      outcome (record { refusal = spot .refusal; after = q })
-      (ap₂ (λ (r : ℕ) (p : Queue). record { refusal = r; after = p }) e (sym (if-refused (enterRefusal s q f) (withFrame q f clock) q (λ z. h (e ∙ z)))))
-
-  pub entry-done : (z : spot .refusal ≡ 0)
-      → (record { refusal = 0; after = record { head = q .head; first = q .first; count = q .count + 1; lengths = set (q .lengths) (spot .slot) (length f); clocks = set (q .clocks) (spot .slot) clock } } ≡ enterAnswer s q f clock)
-      × ((t ≡ enterStore s q f) × (waiting t (record { head = q .head; first = q .first; count = q .count + 1; lengths = set (q .lengths) (spot .slot) (length f); clocks = set (q .clocks) (spot .slot) clock }) ≡ entered 0 (waiting s q) f clock))
-  unfolding enterAnswer withFrame
-  entry-done z =
-      let e : 0 ≡ enterRefusal s q f = sym z ∙ number ∙ by-numbers s q f (m .lengths-32) (m .clocks-32) in
-      outcome (record { refusal = 0; after = record { head = q .head; first = q .first; count = q .count + 1; lengths = set (q .lengths) (spot .slot) (length f); clocks = set (q .clocks) (spot .slot) clock } })
-      (ap₂ (λ (r : ℕ) (p : Queue). record { refusal = r; after = p }) e
-      (ap (λ (k : ℕ). record { head = q .head; first = q .first; count = q .count + 1; lengths = set (q .lengths) k (length f); clocks = set (q .clocks) k clock }) (slotted z .after-last)
-      ∙ sym (if-taken (enterRefusal s q f) (withFrame q f clock) q (sym e))))

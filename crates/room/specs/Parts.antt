@@ -1,19 +1,19 @@
 -- How the code goes by a record's numbers. No promise of a host's call cites what stands here.
-use Prim.Native.Nat.{ℕ, _+_, _<_}
+use Prim.Native.Nat.{ℕ, _+_}
 use mathlib.Core.Path.{_≡_}
 use mathlib.Core.Bool.{_||_}
 use mathlib.Core.List.{List, []}
 use lib.Dec.{ltb, leb}
-use lib.ListN.{length, getD, take}
+use lib.ListN.{length, take}
 use Rattle.refusals.specs.Refusals.{_orElse_, refuse, ifTaken}
 use Rattle.frame.specs.Orders.{takenRefusal}
-use Rattle.ring.specs.Ring.{placeAfter, turned, laid}
-use Rattle.queue.specs.Waiting.{sum, lengthsOf, refusal14}
-use Rattle.queue.specs.Calls.{takeAnswer}
-use Rattle.queue.specs.declared.Queue.{Queue}
-use Rattle.queue.specs.declared.Room.{Room}
-use Rattle.queue.specs.declared.Spot.{Spot}
-use Rattle.queue.specs.declared.Step.{Step}
+use Rattle.ring.specs.Ring.{placeAfter, turned, laid, sum}
+use Rattle.room.specs.Waiting.{lengthsOf, refusal14}
+use Rattle.room.specs.Rules.{takeSent, takeQueue}
+use Rattle.room.specs.declared.Queue.{Queue}
+use Rattle.room.specs.declared.Held.{Held}
+use Rattle.room.specs.declared.Spot.{Spot}
+use Rattle.room.specs.declared.Step.{Step}
 
 -- a record of numbers that come by themselves
 abbrev pub queueWith : ℕ → ℕ → ℕ → List ℕ → List ℕ → Queue
@@ -23,13 +23,8 @@ queueWith head first count lengths clocks = record { head = head; first = first;
 abbrev pub bare : ℕ → ℕ → ℕ → List ℕ → Queue
 bare head first count lengths = queueWith head first count lengths []
 
--- 32 lengths, each an octet
-pub record Slots (lengths : List ℕ) : Type 0 where
-  pub all : length lengths ≡ 32
-  pub octets : (i : ℕ) → getD lengths i 0 < 256
-
 -- 14, and the octets in use where it does not apply
-pub record Judged (n : ℕ) (q : Queue) (r : Room) : Type 0 where
+pub record Judged (n : ℕ) (q : Queue) (r : Held) : Type 0 where
   pub number : r .refusal ≡ refusal14 n q
   pub used : r .refusal ≡ 0 → r .used ≡ sum (lengthsOf q)
 
@@ -50,9 +45,9 @@ octetsFrom at n s = take n (turned at s)
 -- what taking changes
 unfoldable pub stepOf : List ℕ → Queue → ℕ → ℕ → ℕ → List ℕ → Step
 stepOf s q to level addr out = record {
-  refusal = takeAnswer s q to level addr out .refusal;
-  length = takeAnswer s q to level addr out .length;
-  head = takeAnswer s q to level addr out .after .head;
-  first = takeAnswer s q to level addr out .after .first;
-  count = takeAnswer s q to level addr out .after .count;
+  refusal = takeSent s q to level addr out .refusal;
+  length = takeSent s q to level addr out .length;
+  head = takeQueue s q to level addr out .head;
+  first = takeQueue s q to level addr out .first;
+  count = takeQueue s q to level addr out .count;
 }

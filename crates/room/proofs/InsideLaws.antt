@@ -5,19 +5,19 @@ use mathlib.Core.Bool.{Bool, true, false, _||_}
 use mathlib.Core.List.{List, [], _∷_, _++_}
 use native.Mathlib.Omega.{arith}
 use lib.Dec.{ltb, leb}
-use lib.ListN.{length, take, drop, set, getD, length-append, length-drop}
-use lib.Seq.{take-at, drop-cons, take-append-le, length-take-le}
+use lib.ListN.{length}
 use borrow.Author.Tests.{ltb-false, le-ltb, leb-false}
 use Rattle.octets.proofs.BoolLaws.{or-false}
 use Rattle.refusals.specs.Refusals.{_orElse_, refuse, ifTaken}
 use Rattle.refusals.proofs.RefusalLaws.{orElse-zero, refuse-zero}
-use Rattle.ring.specs.Ring.{placeAfter, turned}
-use Rattle.ring.proofs.RingLaws.{turned-length, turned-after, place-below, laid-after, set-laid}
-use Rattle.queue.specs.Plain.{together}
-use Rattle.queue.specs.Waiting.{sum, lengthsOf, clocksOf, waiting, misplaced, outside, refusal14}
-use Rattle.queue.specs.Parts.{Judged}
-use Rattle.queue.specs.declared.Queue.{Queue}
-use Rattle.queue.proofs.CutLaws.{cut-together, cut-count}
+use Rattle.ring.specs.Ring.{turned, sum}
+use Rattle.ring.proofs.RingLaws.{turned-length}
+use Rattle.ring.proofs.SlotLaws.{used-count}
+use Rattle.room.specs.Plain.{together}
+use Rattle.room.specs.Waiting.{lengthsOf, clocksOf, waiting, misplaced, outside, refusal14}
+use Rattle.room.specs.Parts.{Judged}
+use Rattle.room.specs.declared.Queue.{Queue}
+use Rattle.room.proofs.CutLaws.{cut-together, cut-count}
 
 -- an order whose first number stands, or whose others agree once it is none
 pub by-first : (a b c : ℕ) → (a ≡ 0 → b ≡ c) → a orElse b ≡ a orElse c
@@ -55,41 +55,6 @@ unfolding outside
 let-by n q i =
     let l : q .first ≤ 31 = omega (arith, i .slot) in
     simp (le-ltb _ _ (i .store), le-ltb _ _ (i .few), le-ltb _ _ l, le-ltb _ _ (i .place), le-ltb _ _ (i .all))
-
--- 32 slots, of which `count` are in use from `first` on
-module _ (xs : List ℕ) (first count : ℕ) (all : length xs ≡ 32) (slot : first < 32) where
-  pub used-count : count ≤ 32 → length (take count (turned first xs)) ≡ count
-  used-count h = length-take-le count (turned first xs) (omega (arith, turned-length first xs))
-
-  -- one more
-  pub used-more : (v : ℕ) → count < 32 → take (count + 1) (turned first (set xs (placeAfter first count 32) v)) ≡ take count (turned first xs) ++ v ∷ []
-  used-more v h =
-      let R : List ℕ = turned first xs in
-      let p : placeAfter first count 32 ≡ placeAfter first count (length xs) = ap (placeAfter first count) (sym all) in
-      let b : placeAfter first count 32 < length xs = rw all (place-below first count 32 slot (omega arith)) in
-      let seen : turned first (set xs (placeAfter first count 32) v) ≡ take count R ++ v ∷ [] ++ drop (count + 1) R =
-      ap (turned first) (set-laid (placeAfter first count 32) v xs b) ∙ rw p (laid-after first count (v ∷ []) xs (omega arith) (omega arith)) in
-      let l : length (take count R ++ v ∷ []) ≡ count + 1 = length-append (take count R) (v ∷ []) ∙ ap (λ (k : ℕ). k + 1) (used-count (omega arith)) in
-      ap (take (count + 1)) seen ∙ take-at (take count R ++ v ∷ []) (drop (count + 1) R) (count + 1) l
-
-  first-then : turned first xs ≡ getD xs first 0 ∷ (drop (suc first) xs ++ take first xs)
-  unfolding turned
-  first-then = ap (λ (x : List ℕ). x ++ take first xs) (drop-cons xs first 0 (omega arith))
-
-  turned-on : turned (placeAfter first 1 32) xs ≡ (drop (suc first) xs ++ take first xs) ++ getD xs first 0 ∷ []
-  unfolding turned
-  turned-on = ap (λ (n : ℕ). turned (placeAfter first 1 n) xs) (sym all) ∙ turned-after first 1 xs (omega arith) (omega arith) ∙ ap (turned 1) first-then
-
-  -- the first, and the others
-  pub used-first : 0 < count → count ≤ 32 → take count (turned first xs) ≡ getD xs first 0 ∷ take (count - 1) (turned (placeAfter first 1 32) xs)
-  used-first some few = go count some few where
-    go : (c : ℕ) → 0 < c → c ≤ 32 → take c (turned first xs) ≡ getD xs first 0 ∷ take (c - 1) (turned (placeAfter first 1 32) xs)
-    go zero h l = absurd (omega arith)
-    go (suc c) h l =
-        let n : suc c - 1 ≡ c = omega arith in
-        let w : c ≤ length (drop (suc first) xs ++ take first xs) = omega (arith, length-append (drop (suc first) xs) (take first xs), length-drop (suc first) xs, length-take-le first xs (omega arith)) in
-        ap (take (suc c)) first-then
-        ∙ ap (λ (x : List ℕ). getD xs first 0 ∷ x) (sym (ap₂ take n turned-on ∙ take-append-le c (drop (suc first) xs ++ take first xs) (getD xs first 0 ∷ []) w))
 
 -- how many wait, and their lengths together
 module _ (s : List ℕ) (q : Queue) (ll : length (q .lengths) ≡ 32) (lc : length (q .clocks) ≡ 32) (i : Inside (length s) q) where

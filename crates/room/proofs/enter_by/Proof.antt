@@ -4,11 +4,11 @@ use native.Mathlib.Omega.{arith}
 use borrow.Author.Needs.{needs}
 use lib.ListN.{length}
 use Rattle.ring.specs.Ring.{laid}
-use Rattle.queue.specs.Parts.{bare, entryBy}
-use Rattle.queue.specs.declared.Queue.{Queue}
-use Rattle.queue.proofs.EnterLaws.{at-14, at-checks, at-room, spot-refused, spot-done, Ready, ready}
-use Rattle.queue.proofs.enter_by.Statement.{statement}
-use Rattle.queue.proofs.enter_by.Tie as tie
+use Rattle.room.specs.Parts.{bare, entryBy}
+use Rattle.room.specs.declared.Queue.{Queue}
+use Rattle.room.proofs.EnterLaws.{at-14, at-checks, at-room, spot-refused, spot-done, Ready, ready}
+use Rattle.room.proofs.enter_by.Statement.{statement}
+use Rattle.room.proofs.enter_by.Tie as tie
 
 -- the record that the numbers make
 abbrev asked : tie.Start → Queue

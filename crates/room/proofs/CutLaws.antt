@@ -5,8 +5,9 @@ use mathlib.Core.List.{List, [], _∷_, _++_}
 use native.Mathlib.Omega.{arith}
 use lib.ListN.{length, take, drop, length-drop}
 use lib.Seq.{take-append-le, drop-append-le, drop-drop, length-take-le}
-use Rattle.queue.specs.Plain.{Kept, kept, together}
-use Rattle.queue.specs.Waiting.{cut, sum}
+use Rattle.ring.specs.Ring.{sum}
+use Rattle.room.specs.Plain.{Kept, kept, together}
+use Rattle.room.specs.Waiting.{cut}
 
 pub cut-more : (a b ls cs : List ℕ) → sum ls ≤ length a → cut (a ++ b) ls cs ≡ cut a ls cs
 unfolding cut sum
@@ -39,8 +40,3 @@ unfolding cut
 cut-count r [] cs e = refl
 cut-count r (l ∷ ls) [] e = absurd (omega arith)
 cut-count r (l ∷ ls) (c ∷ cs) e = ap suc (cut-count (drop l r) ls cs (omega arith))
-
-pub sum-append : (ls ms : List ℕ) → sum (ls ++ ms) ≡ sum ls + sum ms
-unfolding sum
-sum-append [] ms = omega arith
-sum-append (l ∷ ls) ms = omega (arith, sum-append ls ms)

@@ -11,18 +11,17 @@ use Rattle.refusals.proofs.RefusalLaws.{orElse-zero, refuse-zero, if-taken, if-
 use Rattle.onward.specs.Onward.{waitOf}
 use Rattle.onward.specs.declared.Sent.{Sent}
 use Rattle.node.specs.Node.{forwardAnswer, forwardBuffer}
-use Rattle.ring.specs.Ring.{placeAfter, turned}
+use Rattle.ring.specs.Ring.{placeAfter, turned, sum}
 use Rattle.ring.proofs.RingLaws.{turned-length, turned-straight, turned-after, place-within, place-below}
-use Rattle.queue.specs.Plain.{Kept, kept, firstAnswer, firstBuffer, left}
-use Rattle.queue.specs.Waiting.{cut, sum, lengthsOf, clocksOf, waiting, outside, refusal14}
-use Rattle.queue.specs.Calls.{noneToTake, takeSent, takeBuffer, withoutFirst, takeAnswer}
-use Rattle.queue.specs.Sequence.{Lets}
-use Rattle.queue.specs.Parts.{queueWith, bare, octetsFrom, stepOf}
-use Rattle.queue.specs.declared.Queue.{Queue}
-use Rattle.queue.specs.declared.Taken.{Taken}
-use Rattle.queue.specs.declared.Step.{Step}
-use Rattle.queue.proofs.CutLaws.{cut-more}
-use Rattle.queue.proofs.InsideLaws.{by-first, by-taken, Inside, inside, let-by, used-first, waiting-count}
+use Rattle.ring.proofs.SlotLaws.{used-first}
+use Rattle.room.specs.Plain.{Kept, kept, firstAnswer, firstBuffer, left}
+use Rattle.room.specs.Waiting.{cut, lengthsOf, clocksOf, waiting, outside, refusal14, Lets}
+use Rattle.room.specs.Rules.{noneToTake, takeSent, takeBuffer, withoutFirst, takeQueue}
+use Rattle.room.specs.Parts.{queueWith, bare, octetsFrom, stepOf}
+use Rattle.room.specs.declared.Queue.{Queue}
+use Rattle.room.specs.declared.Step.{Step}
+use Rattle.room.proofs.CutLaws.{cut-more}
+use Rattle.room.proofs.InsideLaws.{by-first, by-taken, Inside, inside, let-by, waiting-count}
 
 -- the part of the store that is lent to the node: straight, and put together
 pub straight : (at n : ℕ) (s : List ℕ) → at ≤ length s → n ≤ length s - at → take (at + n - at) (drop at s) ≡ octetsFrom at n s
@@ -52,10 +51,6 @@ pub none-by : (n head first count : ℕ) (ls cs : List ℕ) (r k e : ℕ) → k 
     → r ≡ noneBy n (queueWith head first count ls cs)
 unfolding outside
 none-by n head first count ls cs r k e ek ee er = er ∙ ap₂ _orElse_ ek ee
-
--- the answer that a step and the slots make
-abbrev pub takenWith : Step → List ℕ → List ℕ → Taken
-takenWith x ls cs = record { refusal = x .refusal; length = x .length; after = queueWith (x .head) (x .first) (x .count) ls cs }
 
 -- the first frame's length and reading
 abbrev pub lengthOf : Queue → ℕ
@@ -125,22 +120,22 @@ module _ (s : List ℕ) (q : Queue) (ll : length (q .lengths) ≡ 32) (lc : leng
         by-taken (noneBy (length s) q) (some-wait (length s) q)
         (λ h. absurd (h (sym (ap (λ (x : Sent). x .refusal) (none-sent h .0)) ∙ z)))
 
-    after-done : takeSent s q to level addr out .refusal ≡ 0 → takeAnswer s q to level addr out .after ≡ withoutFirst (length s) q
-    unfolding takeAnswer
+    after-done : takeSent s q to level addr out .refusal ≡ 0 → takeQueue s q to level addr out ≡ withoutFirst (length s) q
+    unfolding takeQueue
     after-done z = if-taken (takeSent s q to level addr out .refusal) (withoutFirst (length s) q) q z
 
-    after-refused : (takeSent s q to level addr out .refusal ≡ 0 → ⊥) → takeAnswer s q to level addr out .after ≡ q
-    unfolding takeAnswer
+    after-refused : (takeSent s q to level addr out .refusal ≡ 0 → ⊥) → takeQueue s q to level addr out ≡ q
+    unfolding takeQueue
     after-refused h = if-refused (takeSent s q to level addr out .refusal) (withoutFirst (length s) q) q h
 
-    pub take-waits : waiting s (takeAnswer s q to level addr out .after) ≡ left (takeSent s q to level addr out .refusal) (waiting s q)
+    pub take-waits : waiting s (takeQueue s q to level addr out) ≡ left (takeSent s q to level addr out .refusal) (waiting s q)
     take-waits =
         by-taken (takeSent s q to level addr out .refusal)
         (λ z. ap (waiting s) (after-done z) ∙ sym (if-taken (takeSent s q to level addr out .refusal) (drop 1 (waiting s q)) (waiting s q) z ∙ ap (drop 1) (first-waits (gone z .0) (gone z .1))))
         (λ h. ap (waiting s) (after-refused h) ∙ sym (if-refused (takeSent s q to level addr out .refusal) (drop 1 (waiting s q)) (waiting s q) h))
 
     -- what 14 lets by it lets by again
-    pub take-lets : Lets (length s) q → Lets (length s) (takeAnswer s q to level addr out .after)
+    pub take-lets : Lets (length s) q → Lets (length s) (takeQueue s q to level addr out)
     unfolding withoutFirst
     take-lets l =
         by-taken (takeSent s q to level addr out .refusal)
@@ -151,7 +146,7 @@ module _ (s : List ℕ) (q : Queue) (ll : length (q .lengths) ≡ 32) (lc : leng
     -- the record's numbers after it
     pub stepped : (sent : Sent) (z : Queue) → takeSent s q to level addr out ≡ sent → ifTaken (sent .refusal) (withoutFirst (length s) q) q ≡ z
         → record { refusal = sent .refusal; length = sent .length; head = z .head; first = z .first; count = z .count } ≡ stepOf s q to level addr out
-    unfolding stepOf takeAnswer
+    unfolding stepOf takeQueue
     stepped sent z e k =
         ap (λ (p : Queue). record { refusal = sent .refusal; length = sent .length; head = p .head; first = p .first; count = p .count }) (sym k)
         ∙ ap (λ (x : Sent). record {
@@ -188,29 +183,9 @@ module _ (s : List ℕ) (q : Queue) (ll : length (q .lengths) ≡ 32) (lc : leng
       )
 
     -- and its slots as they came
-    pub slots-stay : (takeAnswer s q to level addr out .after .lengths ≡ q .lengths) × (takeAnswer s q to level addr out .after .clocks ≡ q .clocks)
+    pub slots-stay : (takeQueue s q to level addr out .lengths ≡ q .lengths) × (takeQueue s q to level addr out .clocks ≡ q .clocks)
     unfolding withoutFirst
     slots-stay =
         by-taken (takeSent s q to level addr out .refusal)
         (λ z. (ap (λ (p : Queue). p .lengths) (after-done z), ap (λ (p : Queue). p .clocks) (after-done z)))
         (λ h. (ap (λ (p : Queue). p .lengths) (after-refused h), ap (λ (p : Queue). p .clocks) (after-refused h)))
-
-    -- an answer made of the step leaves waiting what is right
-    taking : (x : Step) → x ≡ stepOf s q to level addr out
-        → (takenWith x (q .lengths) (q .clocks) ≡ takeAnswer s q to level addr out) × (waiting s (takenWith x (q .lengths) (q .clocks) .after) ≡ left (x .refusal) (waiting s q))
-    unfolding stepOf takeAnswer
-    taking x e =
-        let made : takenWith x (q .lengths) (q .clocks) ≡ takeAnswer s q to level addr out =
-        ap (λ (y : Step). takenWith y (q .lengths) (q .clocks)) e ∙ ap₂ (takenWith (stepOf s q to level addr out)) (sym (slots-stay .0)) (sym (slots-stay .1)) in
-        (made, ap (λ (a : Taken). waiting s (a .after)) made ∙ take-waits ∙ ap (λ (y : Step). left (y .refusal) (waiting s q)) (sym e))
-
--- what taking by numbers has made, of a record whose lengths came as wider numbers
-pub taken-by : (s : List ℕ) (q : Queue) (to level addr : ℕ) (out ls cs : List ℕ) → ls ≡ q .lengths → length ls ≡ 32 → cs ≡ q .clocks → length cs ≡ 32
-    → (x : Step) → x ≡ stepOf s (queueWith (q .head) (q .first) (q .count) ls cs) to level addr out
-    → (after : List ℕ) → after ≡ takeBuffer s (queueWith (q .head) (q .first) (q .count) ls cs) to level addr out
-    → (takenWith x (q .lengths) (q .clocks) ≡ takeAnswer s q to level addr out)
-    × ((after ≡ takeBuffer s q to level addr out) × (waiting s (takenWith x (q .lengths) (q .clocks) .after) ≡ left (x .refusal) (waiting s q)))
-taken-by s q to level addr out ls cs el ll ec lc x ex after eb =
-    let e : queueWith (q .head) (q .first) (q .count) ls cs ≡ q = ap₂ (queueWith (q .head) (q .first) (q .count)) el ec in
-    let t = taking s q (sym (ap length el) ∙ ll) (sym (ap length ec) ∙ lc) to level addr out x (ex ∙ ap (λ (p : Queue). stepOf s p to level addr out) e) in
-    (t .0, (eb ∙ ap (λ (p : Queue). takeBuffer s p to level addr out) e, t .1))

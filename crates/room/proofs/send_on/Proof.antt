@@ -1,8 +1,8 @@
 use Rattle.onward.specs.Onward.{waitOf}
-use Rattle.queue.proofs.TakeLaws.{straight, put-together, sent-alike}
+use Rattle.room.proofs.TakeLaws.{straight, put-together, sent-alike}
 use borrow.Author.Needs.{needs}
-use Rattle.queue.proofs.send_on.Statement.{statement}
-use Rattle.queue.proofs.send_on.Tie as tie
+use Rattle.room.proofs.send_on.Statement.{statement}
+use Rattle.room.proofs.send_on.Tie as tie
 
 sub-if1 : tie.Need-sub-if1
 sub-if1 c = search needs

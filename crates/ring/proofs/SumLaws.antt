@@ -1,18 +1,21 @@
--- The lengths in use, added slot by slot: those before the first slot are in use where the frames go round, the others as far as the count goes.
+-- The slots in use, added one by one: those before the first are in use where the ring goes round, the others as far as the count goes.
 use Prim.Native.Nat.{ℕ, suc, _+_, _-_, _*_, _%_, _≤_, _<_, min}
 use mathlib.Core.Path.{_≡_, refl, sym, ap, ap₂, _∙_}
 use mathlib.Core.Bool.{Bool, true, false, cond}
-use mathlib.Core.List.{List, [], _∷_, _++_, append-nil}
+use mathlib.Core.List.{List, [], _∷_, _++_}
 use native.Mathlib.Nat.{mod-eq-of-lt, add-mod-right}
 use native.Mathlib.Numerals.{add-one}
 use native.Mathlib.Omega.{arith}
 use lib.Dec.{ltb}
-use lib.ListN.{length, take, drop, getD, length-drop, length-append, drop-of-length-le}
+use lib.ListN.{length, take, drop, getD, length-drop, length-append}
 use lib.Seq.{take-suc, take-all, getD-drop, take-append-le, take-append-add, take-take}
 use borrow.Author.Tests.{ltb-true, ltb-false, lt-ltb, le-ltb}
-use Rattle.ring.specs.Ring.{turned}
-use Rattle.queue.specs.Waiting.{sum}
-use Rattle.queue.proofs.CutLaws.{sum-append}
+use Rattle.ring.specs.Ring.{turned, sum}
+
+pub sum-append : (xs ys : List ℕ) → sum (xs ++ ys) ≡ sum xs + sum ys
+unfolding sum
+sum-append [] ys = omega arith
+sum-append (x ∷ xs) ys = omega (arith, sum-append xs ys)
 
 -- of the first m of a list, those before i
 unfoldable pub upTo : ℕ → ℕ → List ℕ → ℕ
@@ -46,19 +49,19 @@ same-test a b c d p q = go (ltb a b) refl where
   go false e = sym (le-ltb c d (q (ltb-false _ _ e)))
 
 -- what is added once the slots before i have been looked at
-unfoldable pub added : ℕ → ℕ → List ℕ → ℕ → ℕ
-added first count ls i = upTo count (i - first) (drop first ls) + upTo (first + count - 32) i ls
+unfoldable pub addedTo : ℕ → ℕ → List ℕ → ℕ → ℕ
+addedTo first count ls i = upTo count (i - first) (drop first ls) + upTo (first + count - 32) i ls
 
 module _ (first count : ℕ) (ls : List ℕ) (all : length ls ≡ 32) (slot : first < 32) (few : count ≤ 32) where
-  pub added-none : added first count ls 0 ≡ 0
-  unfolding added upTo sum
+  pub added-none : addedTo first count ls 0 ≡ 0
+  unfolding addedTo upTo sum
   added-none =
       let p : min (0 - first) count ≡ 0 = omega arith in
       let q : min 0 (first + count - 32) ≡ 0 = omega arith in
       rw (p, q) refl
 
-  pub added-more : (i : ℕ) → i < 32 → added first count ls i + getD ls i 0 * cond (ltb ((i + 32 - first) % 32) count) 1 0 ≡ added first count ls (i + 1)
-  unfolding added
+  pub added-more : (i : ℕ) → i < 32 → addedTo first count ls i + getD ls i 0 * cond (ltb ((i + 32 - first) % 32) count) 1 0 ≡ addedTo first count ls (i + 1)
+  unfolding addedTo
   added-more i h = go (ltb i first) refl where
     go : (b : Bool) → ltb i first ≡ b
         → upTo count (i - first) (drop first ls) + upTo (first + count - 32) i ls + getD ls i 0 * cond (ltb ((i + 32 - first) % 32) count) 1 0
@@ -80,8 +83,8 @@ module _ (first count : ℕ) (ls : List ℕ) (all : length ls ≡ 32) (slot : fi
         rw g at (step count (i - first) (drop first ls) (omega (arith, length-drop first ls))) in
         rw (m, n) (omega arith)
 
-  pub added-all : added first count ls 32 ≡ sum (take count (turned first ls))
-  unfolding added upTo turned sum
+  pub added-all : addedTo first count ls 32 ≡ sum (take count (turned first ls))
+  unfolding addedTo upTo turned sum
   added-all = go (ltb (32 - first) count) refl where
     ld : length (drop first ls) ≡ 32 - first
     ld = length-drop first ls ∙ ap (λ (k : ℕ). k - first) all
@@ -105,12 +108,7 @@ module _ (first count : ℕ) (ls : List ℕ) (all : length ls ≡ 32) (slot : fi
         let r : take count (drop first ls ++ take first ls) ≡ take count (drop first ls) = take-append-le count (drop first ls) (take first ls) (omega (arith, ld)) in
         rw (p, q, r) (omega arith)
 
--- a length that counts or not is an octet still
+-- an octet that counts or not is an octet still
 pub weighed : (l r : ℕ) (b : Bool) → l < 256 → r ≡ cond b 1 0 → l * r ≤ 255
 weighed l r true h e = rw e (omega arith)
 weighed l r false h e = rw e (omega arith)
-
--- all 32 copied
-pub copied-whole : (a z w : List ℕ) (i : ℕ) → length a ≡ 32 → length z ≡ 32 → i ≡ 32 → w ≡ take i a ++ drop i z → w ≡ a
-copied-whole a z w i la lz ei ew =
-    ew ∙ ap₂ _++_ (take-all i a (omega arith)) (drop-of-length-le z {i = i} (omega arith)) ∙ append-nil a

@@ -1,21 +1,22 @@
 -- Request A6: how a store and a record hold the plain list. The frames lie in the store one behind the other, from the record's first place on and round the
 -- store's end; their lengths and clock readings stand in the record's slots, from its first slot on and round the last.
-use Prim.Native.Nat.{ℕ, _+_}
+use Prim.Native.Nat.{ℕ}
+use mathlib.Core.Path.{_≡_}
 use mathlib.Core.Bool.{Bool, _||_}
 use mathlib.Core.List.{List, [], _∷_}
 use lib.Dec.{ltb}
 use lib.ListN.{length, take, drop}
 use Rattle.refusals.specs.Refusals.{refuse}
-use Rattle.ring.specs.Ring.{turned}
-use Rattle.queue.specs.Plain.{Kept, kept}
-use Rattle.queue.specs.declared.Queue.{Queue}
+use Rattle.ring.specs.Ring.{turned, used, sum}
+use Rattle.room.specs.Plain.{Kept, kept}
+use Rattle.room.specs.declared.Queue.{Queue}
 
--- the slots in use
+-- the lengths and readings of those that wait
 abbrev pub lengthsOf : Queue → List ℕ
-lengthsOf q = take (q .count) (turned (q .first) (q .lengths))
+lengthsOf q = used (q .first) (q .count) (q .lengths)
 
 abbrev pub clocksOf : Queue → List ℕ
-clocksOf q = take (q .count) (turned (q .first) (q .clocks))
+clocksOf q = used (q .first) (q .count) (q .clocks)
 
 -- octets cut into frames of the given lengths, each with its reading
 unfoldable pub cut : List ℕ → List ℕ → List ℕ → List Kept
@@ -27,10 +28,6 @@ cut octets (l ∷ ls) (c ∷ clocks) = kept (take l octets) c ∷ cut (drop l oc
 unfoldable pub waiting : List ℕ → Queue → List Kept
 waiting s q = cut (turned (q .head) s) (lengthsOf q) (clocksOf q)
 
-unfoldable pub sum : List ℕ → ℕ
-sum [] = 0
-sum (l ∷ ls) = l + sum ls
-
 -- a store of n octets over 16,384, a record past 32 frames, or one whose first place is not within the store
 abbrev pub misplaced : ℕ → Queue → Bool
 misplaced n q = ltb 16384 n || ltb 32 (q .count) || ltb 31 (q .first) || ltb n (q .head)
@@ -41,3 +38,9 @@ outside n q = misplaced n q || ltb n (sum (lengthsOf q))
 
 abbrev pub refusal14 : ℕ → Queue → ℕ
 refusal14 n q = refuse (outside n q) 14
+
+-- a record as every one is, with 32 slots, that 14 lets by
+pub record Lets (n : ℕ) (q : Queue) : Type 0 where
+  pub lengths-32 : length (q .lengths) ≡ 32
+  pub clocks-32 : length (q .clocks) ≡ 32
+  pub inside : refusal14 n q ≡ 0

@@ -4,12 +4,12 @@ use native.Mathlib.Omega.{arith}
 use borrow.Author.Needs.{needs}
 use lib.ListN.{length}
 use Rattle.ring.specs.Ring.{placeAfter}
-use Rattle.queue.specs.Parts.{queueWith}
-use Rattle.queue.specs.declared.Queue.{Queue}
-use Rattle.queue.proofs.InsideLaws.{Inside}
-use Rattle.queue.proofs.TakeLaws.{noneBy, none-by, some-wait, first-fits, step-none, step-refused, step-done}
-use Rattle.queue.proofs.take_by.Statement.{statement}
-use Rattle.queue.proofs.take_by.Tie as tie
+use Rattle.room.specs.Parts.{queueWith}
+use Rattle.room.specs.declared.Queue.{Queue}
+use Rattle.room.proofs.InsideLaws.{Inside}
+use Rattle.room.proofs.TakeLaws.{noneBy, none-by, some-wait, first-fits, step-none, step-refused, step-done}
+use Rattle.room.proofs.take_by.Statement.{statement}
+use Rattle.room.proofs.take_by.Tie as tie
 
 abbrev asked : tie.Start → Queue
 asked s = queueWith (s .args .head) (s .args .first) (s .args .count) (s .args .lengths .now) (s .args .clocks .now)

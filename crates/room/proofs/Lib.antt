@@ -1,0 +1,4 @@
+pub mod CutLaws
+pub mod InsideLaws
+pub mod EnterLaws
+pub mod TakeLaws

@@ -1,0 +1,4 @@
+pub mod Plain
+pub mod Waiting
+pub mod Rules
+pub mod Parts
