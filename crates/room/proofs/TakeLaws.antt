@@ -124,7 +124,7 @@ module _ (s : List ℕ) (q : Queue) (ll : length (q .lengths) ≡ 32) (lc : leng
     unfolding takeQueue
     after-done z = if-taken (takeSent s q to level addr out .refusal) (withoutFirst (length s) q) q z
 
-    after-refused : (takeSent s q to level addr out .refusal ≡ 0 → ⊥) → takeQueue s q to level addr out ≡ q
+    pub after-refused : (takeSent s q to level addr out .refusal ≡ 0 → ⊥) → takeQueue s q to level addr out ≡ q
     unfolding takeQueue
     after-refused h = if-refused (takeSent s q to level addr out .refusal) (withoutFirst (length s) q) q h
 
