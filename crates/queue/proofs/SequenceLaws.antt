@@ -5,35 +5,34 @@ use mathlib.Core.List.{List, [], _∷_}
 use native.Mathlib.Omega.{arith}
 use lib.ListN.{length}
 use borrow.Author.Tests.{le-ltb}
-use Rattle.refusals.specs.Refusals.{_orElse_, ifTaken}
-use Rattle.frame.specs.Orders.{takenRefusal}
+use Rattle.refusals.specs.Refusals.{_orElse_}
 use Rattle.onward.specs.declared.Sent.{Sent}
 use Rattle.ring.specs.Ring.{turned, sum}
-use Rattle.room.specs.Plain.{Kept, refusal25, refusal26, firstAnswer, firstBuffer, entered, left}
+use Rattle.room.specs.Plain.{Kept, enterOrder, refusal26, sentPast, bufferPast, entered, left}
 use Rattle.room.specs.Waiting.{cut, waiting, outside, refusal14, Lets}
 use Rattle.room.specs.Rules.{enterRefusal, takeSent, takeBuffer}
 use Rattle.room.specs.declared.Queue.{Queue}
 use Rattle.queue.specs.Calls.{freshQueue, enterAnswer, takeAnswer}
-use Rattle.queue.specs.Sequence.{Call, Comes, Goes, Answer, came, went, answer, storeAfter, queueAfter, answers, plainEnter, plainSent, plainAnswer, plainAfter, plainAnswers, afterAll, plainAfterAll}
+use Rattle.queue.specs.Sequence.{Call, Comes, Goes, Answer, came, went, answer, storeAfter, queueAfter, answers, plainSent, plainAnswer, plainAfter, plainAnswers, afterAll, plainAfterAll}
 use Rattle.room.proofs.EnterLaws.{store-size, enter-waits, enter-lets}
 use Rattle.room.proofs.TakeLaws.{take-waits, take-lets}
 
 module _ (s : List ℕ) (q : Queue) (l : Lets (length s) q) where
   -- past 14 the orders are the list's
-  enter-plain : (f : List ℕ) → enterRefusal s q f ≡ plainEnter (length s) (waiting s q) f
+  enter-plain : (f : List ℕ) → enterRefusal s q f ≡ enterOrder (length s) (waiting s q) f
   unfolding enterRefusal
-  enter-plain f = ap (λ (r : ℕ). r orElse takenRefusal f orElse refusal25 (length s) (waiting s q) f) (l .inside)
+  enter-plain f = ap (λ (r : ℕ). r orElse enterOrder (length s) (waiting s q) f) (l .inside)
 
   sent-plain : (to level addr : ℕ) (out : List ℕ) → takeSent s q to level addr out ≡ plainSent (waiting s q) to level addr out
   unfolding takeSent
   sent-plain to level addr out =
-      ap (λ (r : ℕ). ifTaken (r orElse refusal26 (waiting s q)) (firstAnswer (waiting s q) to level addr out) (record { refusal = r orElse refusal26 (waiting s q); length = 0 })) (l .inside)
+      ap (λ (r : ℕ). sentPast (r orElse refusal26 (waiting s q)) (waiting s q) to level addr out) (l .inside)
 
   pub answer-plain : (c : Call) → answer s q c ≡ plainAnswer (length s) (waiting s q) c
   unfolding answer plainAnswer takeBuffer enterAnswer takeAnswer
   answer-plain (Comes f clock) = ap came (enter-plain f)
   answer-plain (Goes to level addr out) =
-      ap₂ (λ (x : Sent) (b : List ℕ). went (x .refusal) (x .length) b) (sent-plain to level addr out) (ap (λ (r : ℕ). ifTaken (r orElse refusal26 (waiting s q)) (firstBuffer (waiting s q) to level addr out) out) (l .inside))
+      ap₂ (λ (x : Sent) (b : List ℕ). went (x .refusal) (x .length) b) (sent-plain to level addr out) (ap (λ (r : ℕ). bufferPast (r orElse refusal26 (waiting s q)) (waiting s q) to level addr out) (l .inside))
 
   pub after-plain : (c : Call) → waiting (storeAfter s q c) (queueAfter s q c) ≡ plainAfter (length s) (waiting s q) c
   unfolding storeAfter queueAfter plainAfter enterAnswer takeAnswer

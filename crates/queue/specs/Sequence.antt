@@ -1,10 +1,8 @@
 -- Request A6: any sequence of calls, store and record being handed to each call as the last one left them, and the same calls on a plain list.
 use Prim.Native.Nat.{ℕ}
 use mathlib.Core.List.{List, [], _∷_}
-use Rattle.refusals.specs.Refusals.{_orElse_, ifTaken}
-use Rattle.frame.specs.Orders.{takenRefusal}
 use Rattle.onward.specs.declared.Sent.{Sent}
-use Rattle.room.specs.Plain.{Kept, refusal25, refusal26, firstAnswer, firstBuffer, entered, left}
+use Rattle.room.specs.Plain.{Kept, enterOrder, refusal26, sentPast, bufferPast, entered, left}
 use Rattle.room.specs.Waiting.{waiting}
 use Rattle.room.specs.Rules.{enterStore, takeBuffer}
 use Rattle.room.specs.declared.Queue.{Queue}
@@ -50,21 +48,15 @@ afterAll s q [] = waiting s q
 afterAll s q (c ∷ cs) = afterAll (storeAfter s q c) (queueAfter s q c) cs
 
 -- on a plain list, with room for n octets
-abbrev pub plainEnter : ℕ → List Kept → List ℕ → ℕ
-plainEnter n w f = takenRefusal f orElse refusal25 n w f
-
 abbrev pub plainSent : List Kept → ℕ → ℕ → ℕ → List ℕ → Sent
-plainSent w to level addr out = ifTaken (refusal26 w) (firstAnswer w to level addr out) (record { refusal = refusal26 w; length = 0 })
-
-abbrev pub plainBuffer : List Kept → ℕ → ℕ → ℕ → List ℕ → List ℕ
-plainBuffer w to level addr out = ifTaken (refusal26 w) (firstBuffer w to level addr out) out
+plainSent w to level addr out = sentPast (refusal26 w) w to level addr out
 
 unfoldable pub plainAnswer : ℕ → List Kept → Call → Answer
-plainAnswer n w (Comes f clock) = came (plainEnter n w f)
-plainAnswer n w (Goes to level addr out) = went (plainSent w to level addr out .refusal) (plainSent w to level addr out .length) (plainBuffer w to level addr out)
+plainAnswer n w (Comes f clock) = came (enterOrder n w f)
+plainAnswer n w (Goes to level addr out) = went (plainSent w to level addr out .refusal) (plainSent w to level addr out .length) (bufferPast (refusal26 w) w to level addr out)
 
 unfoldable pub plainAfter : ℕ → List Kept → Call → List Kept
-plainAfter n w (Comes f clock) = entered (plainEnter n w f) w f clock
+plainAfter n w (Comes f clock) = entered (enterOrder n w f) w f clock
 plainAfter n w (Goes to level addr out) = left (plainSent w to level addr out .refusal) w
 
 unfoldable pub plainAnswers : ℕ → List Kept → List Call → List Answer

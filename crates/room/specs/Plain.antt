@@ -4,7 +4,8 @@ use mathlib.Core.Bool.{_||_}
 use mathlib.Core.List.{List, [], _∷_, _++_}
 use lib.Dec.{ltb, leb, eqb}
 use lib.ListN.{length, drop}
-use Rattle.refusals.specs.Refusals.{refuse, ifTaken}
+use Rattle.refusals.specs.Refusals.{_orElse_, refuse, ifTaken}
+use Rattle.frame.specs.Orders.{takenRefusal}
 use Rattle.onward.specs.Onward.{waitOf}
 use Rattle.onward.specs.declared.Sent.{Sent}
 use Rattle.node.specs.Node.{forwardAnswer, forwardBuffer}
@@ -26,6 +27,10 @@ together (k ∷ w) = length (k .octets) + together w
 abbrev pub refusal25 : ℕ → List Kept → List ℕ → ℕ
 refusal25 n w f = refuse (leb 32 (length w) || ltb n (together w + length f)) 25
 
+-- on entry: the frame's own checks (1 to 9 in the node's order, with 24), then 25
+abbrev pub enterOrder : ℕ → List Kept → List ℕ → ℕ
+enterOrder n w f = takenRefusal f orElse refusal25 n w f
+
 -- nothing waiting
 abbrev pub refusal26 : List Kept → ℕ
 refusal26 w = refuse (eqb (length w) 0) 26
@@ -41,6 +46,13 @@ firstAnswer w to level addr out = forwardAnswer level (waitOf (firstOf w .readin
 
 unfoldable pub firstBuffer : List Kept → ℕ → ℕ → ℕ → List ℕ → List ℕ
 firstBuffer w to level addr out = forwardBuffer level (waitOf (firstOf w .reading) to) addr (firstOf w .octets) out
+
+-- on taking, once the numbers before the node's give r: the node's own call, or that number
+abbrev pub sentPast : ℕ → List Kept → ℕ → ℕ → ℕ → List ℕ → Sent
+sentPast r w to level addr out = ifTaken r (firstAnswer w to level addr out) (record { refusal = r; length = 0 })
+
+abbrev pub bufferPast : ℕ → List Kept → ℕ → ℕ → ℕ → List ℕ → List ℕ
+bufferPast r w to level addr out = ifTaken r (firstBuffer w to level addr out) out
 
 -- what waits after a frame came, and after one was to go: refused, those that waited
 abbrev pub entered : ℕ → List Kept → List ℕ → ℕ → List Kept

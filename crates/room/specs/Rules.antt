@@ -3,16 +3,15 @@ use Prim.Native.Nat.{ℕ, _+_, _-_}
 use mathlib.Core.List.{List}
 use lib.ListN.{length, getD, set}
 use Rattle.refusals.specs.Refusals.{_orElse_, ifTaken}
-use Rattle.frame.specs.Orders.{takenRefusal}
 use Rattle.onward.specs.declared.Sent.{Sent}
 use Rattle.ring.specs.Ring.{placeAfter, laid}
-use Rattle.room.specs.Plain.{together, refusal25, refusal26, firstAnswer, firstBuffer}
+use Rattle.room.specs.Plain.{together, enterOrder, refusal26, sentPast, bufferPast}
 use Rattle.room.specs.Waiting.{waiting, refusal14}
 use Rattle.room.specs.declared.Queue.{Queue}
 
--- on entry: 14, the frame's own checks (1 to 9 in the node's order, with 24), 25
+-- on entry: 14, then the plain list's order
 unfoldable pub enterRefusal : List ℕ → Queue → List ℕ → ℕ
-enterRefusal s q f = refusal14 (length s) q orElse takenRefusal f orElse refusal25 (length s) (waiting s q) f
+enterRefusal s q f = refusal14 (length s) q orElse enterOrder (length s) (waiting s q) f
 
 -- the record with a frame more, in the slot after the last
 unfoldable pub withFrame : Queue → List ℕ → ℕ → Queue
@@ -36,10 +35,10 @@ abbrev pub noneToTake : List ℕ → Queue → ℕ
 noneToTake s q = refusal14 (length s) q orElse refusal26 (waiting s q)
 
 unfoldable pub takeSent : List ℕ → Queue → ℕ → ℕ → ℕ → List ℕ → Sent
-takeSent s q to level addr out = ifTaken (noneToTake s q) (firstAnswer (waiting s q) to level addr out) (record { refusal = noneToTake s q; length = 0 })
+takeSent s q to level addr out = sentPast (noneToTake s q) (waiting s q) to level addr out
 
 unfoldable pub takeBuffer : List ℕ → Queue → ℕ → ℕ → ℕ → List ℕ → List ℕ
-takeBuffer s q to level addr out = ifTaken (noneToTake s q) (firstBuffer (waiting s q) to level addr out) out
+takeBuffer s q to level addr out = bufferPast (noneToTake s q) (waiting s q) to level addr out
 
 -- the record without its first, in a store of n octets
 unfoldable pub withoutFirst : ℕ → Queue → Queue
