@@ -1,7 +1,8 @@
 /* Two bursts of speech from an origin through two nodes to an endpoint, as an operator would want to
  * see them: what each frame weighs on the way, when it is played and what is left of the voice. The
  * stop packet of the second comes late. The signalling of a trunk that dies and comes back, and a frame of
- * a foreign unit that sets the poll bit. And three frames on a line of bare bits, one of them damaged there. */
+ * a foreign unit that sets the poll bit. Three frames on a line of bare bits, one of them damaged there. And
+ * three that wait at a node until its line is ready. */
 
 #include <stdio.h>
 #include <string.h>
@@ -11,8 +12,9 @@
 /* The stop packet has a noise of its own, so that it is seen to count. */
 enum { CODING = 21, NOISE = 3, NOISE_AT_STOP = 5, BUILD_OUT = 100, PACKETS = 6, FRAMES = 3 };
 
-/* Refusals after which it goes on: a packet that is late, and what of a line is damaged. */
-enum { LATE = 17, FRAME_SIZE = 1, PART_OCTET = 22, ABORT = 23 };
+/* Refusals after which it goes on: a packet that is late, what of a line is damaged, a waiting room that is
+ * full or empty. */
+enum { LATE = 17, FRAME_SIZE = 1, PART_OCTET = 22, ABORT = 23, NO_ROOM = 25, NOTHING_WAITS = 26 };
 
 typedef struct {
     uint8_t octets[PELGRANT_FRAME_MAX];
@@ -154,6 +156,59 @@ static int bare_bits(const frame *voice)
     return 0;
 }
 
+/* Three voice frames come to a node whose store has room for two: the third is refused until the first has left,
+ * and then lies round the store's end. Level and address are those of the moment when a frame leaves, and its
+ * wait, by a clock that rolls over, is in the delay. */
+static int waiting_room(void)
+{
+    enum { LEAVES = -1, TYPE_24 = 24 };
+    static const struct { uint32_t clock; int enters; uint8_t level; uint16_t address; } calls[] = {
+        {4294967286u, 0, 0, 0}, {4294967295u, 1, 0, 0}, {2, 2, 0, 0}, {10, LEAVES, 0, 300}, {10, 2, 0, 0},
+        {30, LEAVES, 1, 4711}, {43, LEAVES, 2, 4711}, {43, LEAVES, 0, 4711},
+    };
+    uint8_t store[300], samples[PELGRANT_SAMPLES], sseq = 0;
+    uint32_t queue[PELGRANT_QUEUE];
+    uint64_t answer = 0;
+    frame came[FRAMES];
+    for (int n = 0; n < FRAMES; n++) {
+        speak(n, samples);
+        uint8_t number = pelgrant_send(&sseq, n == 0 ? PELGRANT_START : PELGRANT_DATA, TYPE_24, NOISE, samples,
+            sizeof samples, 0, 0, 2, 128, came[n].octets, sizeof came[n].octets, &answer, 1);
+        if (number != 0)
+            return refused("the origin", number);
+        came[n].length = (size_t)answer;
+    }
+
+    uint8_t number = pelgrant_queue_fresh(queue, PELGRANT_QUEUE);
+    if (number != 0)
+        return refused("the fresh queue", number);
+    printf("\nThree frames that wait at a node, in a store of %zu octets\n\n"
+           "     clock          number  waiting  head  sequence  octets  delay  level  address\n", sizeof store);
+    for (size_t n = 0; n < sizeof calls / sizeof calls[0]; n++) {
+        frame passing = {{0}, 0};
+        if (calls[n].enters == LEAVES) {
+            number = pelgrant_queue_take(store, sizeof store, queue, PELGRANT_QUEUE, calls[n].clock, calls[n].level,
+                calls[n].address, passing.octets, sizeof passing.octets, &answer, 1);
+            passing.length = (size_t)answer;
+        } else {
+            passing = came[calls[n].enters];
+            number = pelgrant_queue_enter(store, sizeof store, queue, PELGRANT_QUEUE, passing.octets, passing.length,
+                calls[n].clock);
+        }
+        if (number != 0 && number != NO_ROOM && number != NOTHING_WAITS)
+            return refused("the waiting room", number);
+        printf("%10lu  %-6s  %6u  %7lu  %4lu", (unsigned long)calls[n].clock,
+            calls[n].enters == LEAVES ? "leaves" : "enters", number, (unsigned long)queue[PELGRANT_QUEUE_COUNT],
+            (unsigned long)queue[PELGRANT_QUEUE_HEAD]);
+        if (passing.length != 0)
+            printf("  %8d  %6zu  %5d", passing.octets[7] >> 4, passing.length, passing.octets[5]);
+        if (passing.length != 0 && calls[n].enters == LEAVES)
+            printf("  %5d  %7d", calls[n].level, (passing.octets[0] >> 2 << 7) | (passing.octets[1] >> 1));
+        printf("\n");
+    }
+    return 0;
+}
+
 static void heading(const char *title)
 {
     printf("%s\n\nstep   sequence  octets sent  after node 1  after node 2  delay  arrives   due  dropped  reset"
@@ -258,5 +313,5 @@ int main(void)
     if (trunk() != 0)
         return 1;
     foreign_unit();
-    return bare_bits(&line.came) != 0;
+    return bare_bits(&line.came) != 0 || waiting_room() != 0;
 }

@@ -37,8 +37,9 @@
  * A waiting room is a store, lent octets, and a queue, the record of what waits there: 67 numbers of 32
  * bits. Frame k that waits, from 0, has slot (FIRST + k) % 32, where its length and its clock reading at
  * arrival stand. The first frame begins at place HEAD of the store and each other where the one before it
- * ends; a frame that reaches the store's end goes on at its beginning. What the slots hold that no
- * waiting frame has is of no account.
+ * ends; a frame that reaches the store's end goes on at its beginning, and a HEAD at the very end is the
+ * same place as 0. What the slots hold that no waiting frame has is of no account, as long as each length
+ * fits an octet.
  */
 #ifndef PELGRANT_H
 #define PELGRANT_H
@@ -270,12 +271,13 @@ uint8_t pelgrant_line_next(const uint8_t *line, size_t line_len, size_t count, s
 uint8_t pelgrant_queue_fresh(uint32_t *queue, size_t queue_len);
 
 /* A frame enters the waiting room, behind those that wait.
- * Lent: the store; the queue; the frame; clock, a reading of the 32-bit millisecond clock at its arrival.
- * Back: the frame in the store, behind the last one; the queue with COUNT one more and, in the slot after
- *   the last one's, the frame's length and the reading.
+ * Lent: the store; the queue, exactly 67 numbers; the frame; clock, a reading of the 32-bit millisecond
+ *   clock at its arrival.
+ * Back: the frame in the store, behind the last one, or at HEAD where nothing waits; the queue with COUNT
+ *   one more and, in slot (FIRST + COUNT) % 32 of the COUNT before, the frame's length and the reading.
  * Refusals: 14 where the store is longer than 16,384 octets, queue_len is not 67, a length in any slot is
- *   above 255, COUNT is above 32, FIRST above 31, HEAD past the store's end, or the lengths of those that
- *   wait are together more than the store's; then 1, 2, 3, 24, 4, 5, 6 (voice only), 7, 8, 9; 25 where 32
+ *   above 255, COUNT is above 32, FIRST above 31, HEAD above the store's length (also where nothing
+ *   waits), or the lengths of those that wait are together more than the store's; then 1, 2, 3, 24, 4, 5, 6 (voice only), 7, 8, 9; 25 where 32
  *   are waiting, or where their lengths and the frame's own are together more than the store's.
  * Untouched: frame; every octet of the store and every number of the queue not named above; where
  *   refused, all of both. */
@@ -284,8 +286,8 @@ uint8_t pelgrant_queue_enter(uint8_t *store, size_t store_len, uint32_t *queue, 
 
 /* The first frame that waits is sent on as pelgrant_forward does it, its wait running from its reading at
  * arrival to the present one, which may have rolled over, and leaves the waiting room.
- * Lent: the store; the queue; to, the present reading; level, 0 to 3; the outgoing address; out, for the
- *   frame sent on.
+ * Lent: the store; the queue, exactly 67 numbers; to, the present reading; level, 0 to 3; the outgoing
+ *   address; out, for the frame sent on.
  * Back: answer[0] the length of the frame sent on; that frame in out; the queue with COUNT one less, FIRST
  *   the next slot (0 after 31), and HEAD further by the frame's length as it waited, less the store's
  *   length where the sum is not below it.

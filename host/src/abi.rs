@@ -7,7 +7,8 @@ use crate::Calls;
 /// The library that `host/build-library` makes.
 pub struct Card;
 
-/// The independent implementation, called as if it were such a library.
+/// The independent implementation, called as if it were such a library. Its waiting room is the plain ring: the
+/// list is there to be believed, and not to be timed.
 pub struct Plain;
 
 /// Passes what is lent to a function in C's form.
@@ -27,7 +28,7 @@ macro_rules! passed {
 }
 
 /// Takes a call's parameters one by one into C's form, with what rebuilds each, and then makes of them
-/// either the declaration of the library's function or a function that calls the independent Rust.
+/// either the declaration of the library's function or a function that calls the independent Rust named.
 /// Each `length` is another name, for each comes from a step of its own.
 macro_rules! in_c {
     (library $exported:literal $call:ident, [$($parameter:tt)*] [$($rebuilt:expr,)*]) => {
@@ -36,13 +37,13 @@ macro_rules! in_c {
             pub fn $call($($parameter)*) -> u8;
         }
     };
-    (independent $exported:literal $call:ident, [$($parameter:tt)*] [$($rebuilt:expr,)*]) => {
+    ($independent:ident $exported:literal $call:ident, [$($parameter:tt)*] [$($rebuilt:expr,)*]) => {
         /// # Safety
         /// Each pointer is good for its length, and what is written overlaps with nothing else.
         #[inline(never)]
         #[allow(clippy::too_many_arguments)]
         pub unsafe extern "C" fn $call($($parameter)*) -> u8 {
-            Document.$call($($rebuilt),*)
+            $independent.$call($($rebuilt),*)
         }
     };
     (
@@ -72,35 +73,36 @@ macro_rules! in_c {
 }
 
 macro_rules! calls {
-    ($($exported:literal $call:ident($($lent:tt)*);)*) => {
+    ($($independent:ident: $($exported:literal $call:ident($($lent:tt)*);)*)*) => {
         mod library {
-            $(in_c!(library $exported $call, [] [] $($lent)*);)*
+            $($(in_c!(library $exported $call, [] [] $($lent)*);)*)*
         }
 
         mod independent {
-            use crate::{flat::Document, Calls};
+            use crate::{flat::Document, ring::Ring, Calls};
             use std::slice::{from_raw_parts, from_raw_parts_mut};
-            $(in_c!(independent $exported $call, [] [] $($lent)*);)*
+            $($(in_c!($independent $exported $call, [] [] $($lent)*);)*)*
         }
 
         // Sound throughout: a lent slice is valid for its length, and the borrows keep what is written
         // apart from all else that is lent.
         impl Calls for Card {
-            $(fn $call(&self, $($lent)*) -> u8 {
+            $($(fn $call(&self, $($lent)*) -> u8 {
                 unsafe { passed!(library::$call, [] $($lent)*) }
-            })*
+            })*)*
         }
 
         impl Calls for Plain {
-            $(fn $call(&self, $($lent)*) -> u8 {
+            $($(fn $call(&self, $($lent)*) -> u8 {
                 unsafe { passed!(independent::$call, [] $($lent)*) }
-            })*
+            })*)*
         }
     };
 }
 
-// The calls of `pelgrant.h`, in its order.
+// The calls of `pelgrant.h`, in its order, by the independent Rust that stands beside each.
 calls! {
+    Document:
     "pelgrant_send" send(
         sseq: &mut u8, step: u8, coding: u8, noise: u8, samples: &[u8], level: u8, from: u32, to: u32, address: u16,
         out: &mut [u8], answer: &mut [u64],
@@ -131,5 +133,12 @@ calls! {
     "pelgrant_line_add" line_add(line: &mut [u8], count: usize, frame: &[u8], answer: &mut [u64],);
     "pelgrant_line_next" line_next(
         line: &[u8], count: usize, place: usize, out: &mut [u8], answer: &mut [u64],
+    );
+    "pelgrant_queue_fresh" queue_fresh(queue: &mut [u32],);
+
+    Ring:
+    "pelgrant_queue_enter" queue_enter(store: &mut [u8], queue: &mut [u32], frame: &[u8], clock: u32,);
+    "pelgrant_queue_take" queue_take(
+        store: &[u8], queue: &mut [u32], to: u32, level: u8, address: u16, out: &mut [u8], answer: &mut [u64],
     );
 }

@@ -28,7 +28,7 @@ const PACKET_MS: u64 = 16;
 /// A frame is due at most this long after the clock, so `end` is at most 16 ms more.
 const AHEAD_MAX: u64 = 439;
 
-/// The refusal numbers of document 01, and 21 to 24 of document 02.
+/// The refusal numbers of document 01, and 21 to 26 of document 02.
 #[derive(Clone, Copy, Debug, PartialEq, Eq)]
 #[repr(u8)]
 pub enum Refusal {
@@ -56,6 +56,8 @@ pub enum Refusal {
     PartOctet = 22,
     Abort = 23,
     CommandOrPoll = 24,
+    NoRoom = 25,
+    NothingWaits = 26,
 }
 
 use Refusal::*;

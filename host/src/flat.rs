@@ -1,5 +1,5 @@
-//! Document 01, the signalling watch and the line of bits in the flat form of `pelgrant.h`: numbers and
-//! lent slices.
+//! Document 01, the signalling watch, the line of bits and the waiting room in the flat form of `pelgrant.h`:
+//! numbers and lent slices.
 //!
 //! Only this form can be lent an answer slice too short (16), a step (13) or an event (21) that is
 //! none, or a record of another length or with a number that fits no field (14); they are judged
@@ -8,6 +8,7 @@
 
 use crate::document::{self, Departure, Endpoint, Kind, Packet, Refusal, Scheduled, Step, SAMPLES};
 use crate::line::{self, Frame, Unread};
+use crate::queue::{self, QUEUE};
 use crate::watch::{Cause, Conditioning, Event, Originating, Terminating, Told, Watch};
 use crate::Calls;
 
@@ -315,6 +316,28 @@ impl Calls for Document {
         answer[..3].copy_from_slice(&values);
         number
     }
+
+    fn queue_fresh(&self, queue: &mut [u32]) -> u8 {
+        if queue.len() != QUEUE {
+            return Refusal::Record as u8;
+        }
+        queue.fill(0);
+        0
+    }
+
+    fn queue_enter(&self, store: &mut [u8], queue: &mut [u32], frame: &[u8], clock: u32) -> u8 {
+        queue::enter(store, queue, frame, clock).map_or_else(|refusal| refusal as u8, |()| 0)
+    }
+
+    fn queue_take(
+        &self, store: &[u8], queue: &mut [u32], to: u32, level: u8, address: u16, out: &mut [u8], answer: &mut [u64],
+    ) -> u8 {
+        if answer.is_empty() {
+            return SHORT;
+        }
+        let sent_on = queue::take(store, queue, to, level, address, out);
+        answered(sent_on.map(|length| [length as u64]), answer)
+    }
 }
 
 #[cfg(test)]
@@ -471,5 +494,35 @@ mod tests {
             assert_eq!(Document.line_next(&between, 32, 0, &mut [], &mut answer), number);
             assert_eq!(answer, [0, 0, end]);
         }
+    }
+    #[test]
+    fn queues_in_numbers() {
+        for length in [0, 66, 68] {
+            let mut queue = vec![77; length];
+            assert_eq!((Document.queue_fresh(&mut queue), queue), (14, vec![77; length]));
+        }
+        let (mut store, mut queue) = ([0; 20], [77; QUEUE]);
+        assert_eq!((Document.queue_fresh(&mut queue), queue), (0, [0; QUEUE]));
+
+        let (mut frame, departure) = ([0; 10], Departure { from: 0, to: 5, address: 128 });
+        document::signal_write(10, 1, &departure, &mut frame).unwrap();
+        assert_eq!(Document.queue_enter(&mut store, &mut queue[1..], &frame, 100), 14);
+        assert_eq!(Document.queue_enter(&mut store, &mut queue, &frame[1..], 100), 1);
+        assert_eq!(Document.queue_enter(&mut store, &mut queue, &frame, 100), 0);
+        assert_eq!(Document.queue_enter(&mut store, &mut queue, &frame, 120), 0);
+        assert_eq!(Document.queue_enter(&mut store, &mut queue, &frame, 130), 25);
+
+        let take = |queue: &mut [u32], level, room| {
+            let (mut out, mut answer) = (vec![0xFF; room], [UNUSED; 2]);
+            let number = Document.queue_take(&store, queue, 130, level, 129, &mut out, &mut answer);
+            (number, answer, out.get(5).copied())
+        };
+        assert_eq!(take(&mut queue[1..], 0, 12), (14, [0, UNUSED], Some(0xFF)));
+        assert_eq!(take(&mut queue, 4, 12), (10, [0, UNUSED], Some(0xFF)));
+        assert_eq!(take(&mut queue, 0, 9), (16, [0, UNUSED], Some(0xFF)));
+        assert_eq!(take(&mut queue, 0, 12), (0, [10, UNUSED], Some(35)));
+        assert_eq!(take(&mut queue, 0, 10), (0, [10, UNUSED], Some(15)));
+        assert_eq!(take(&mut queue, 4, 0), (26, [0, UNUSED], None));
+        assert_eq!(Document.queue_take(&store, &mut [], 0, 4, 0, &mut [], &mut []), 16);
     }
 }

@@ -1,10 +1,13 @@
-//! The host's side of the card: document 01, the signalling watch and the line of bits in plain Rust, and
-//! the proved library beside them under one trait, so that the same program can call, compare and time both.
+//! The host's side of the card: document 01, the signalling watch, the line of bits and the waiting room in
+//! plain Rust, and the proved library beside them under one trait, so that the same program can call, compare
+//! and time both.
 
 pub mod document;
 pub mod flat;
 pub mod line;
+pub mod queue;
 pub mod random;
+pub mod ring;
 pub mod watch;
 
 #[cfg(feature = "card")]
@@ -43,4 +46,9 @@ pub trait Calls {
     fn watch_tell(&self, watch: &mut [u64], clock: u64, event: u8, bits: u8, flag: u8, answer: &mut [u64]) -> u8;
     fn line_add(&self, line: &mut [u8], count: usize, frame: &[u8], answer: &mut [u64]) -> u8;
     fn line_next(&self, line: &[u8], count: usize, place: usize, out: &mut [u8], answer: &mut [u64]) -> u8;
+    fn queue_fresh(&self, queue: &mut [u32]) -> u8;
+    fn queue_enter(&self, store: &mut [u8], queue: &mut [u32], frame: &[u8], clock: u32) -> u8;
+    fn queue_take(
+        &self, store: &[u8], queue: &mut [u32], to: u32, level: u8, address: u16, out: &mut [u8], answer: &mut [u64],
+    ) -> u8;
 }

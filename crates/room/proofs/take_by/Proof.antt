@@ -103,7 +103,7 @@ returns-3 c =
     let s = start (d .before) in
     let a = s .args in
     step-done (a .store .now) (asked s) (s .pre .0 .all) (s .pre .1) (a .to) (a .level) (a .address) (a .out .now) (v .send-on .result) _ (none d) (v .send-on .ensures) (c .before .before .if2 .left)
-    (c .before .place-after .result) (c .place-after2 .result) (a .count - 1) (c .before .place-after .ensures) (c .place-after2 .ensures) refl
+    (c .before .place-after .result) (c .place-after2 .result) _ (c .before .place-after .ensures) (c .place-after2 .ensures) refl
 
 pub take-by-spec : {M : Type 1} → statement M
 take-by-spec =

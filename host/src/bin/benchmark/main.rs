@@ -1,6 +1,6 @@
 //! Times every call of the proved library beside the independent Rust, in one run, and prints
 //! Markdown tables. Buffers and records are made once for each measurement and used again, not
-//! cleared between calls.
+//! cleared between calls; of a waiting room's record three numbers are put back.
 //!
 //! The comparison is fair: both are called through the same C boundary, which nothing is inlined
 //! across, and whatever is lent to them is hidden from the compiler in the same way.
@@ -12,7 +12,9 @@ use pelgrant_host::abi::{Card, Plain};
 use pelgrant_host::document::check_sequence;
 use pelgrant_host::flat::Document;
 use pelgrant_host::foreign::{NAMES, STACKS};
+use pelgrant_host::queue::STORE_MAX;
 use pelgrant_host::random::Random;
+use pelgrant_host::ring;
 use pelgrant_host::yardstick::Yardstick;
 use pelgrant_host::Calls;
 use timing::{best, best_of, Work, ROUND, ROUNDS};
@@ -29,6 +31,10 @@ const TYPE_21: u8 = 21;
 const DONE_MARK: f64 = 1.0;
 const SAMPLES_MARK: f64 = 0.75;
 const REFUSED_MARK: f64 = 1.25;
+/// How often its own shortest time a call of a waiting room may take, however many wait.
+const WAITING_MARK: f64 = 1.25;
+/// How many others wait in those measurements.
+const OTHERS: [usize; 4] = [0, 1, 16, 31];
 /// How much longer than itself the same thing may seem to take.
 const NOISE: f64 = 1.05;
 
@@ -318,8 +324,32 @@ impl Refused {
                 link(Card, 4, &wrong_check_of(&voice)),
             );
         }
+        self.waiting_room_rows(&voice);
         println!();
         self.summary();
+    }
+
+    fn waiting_room_rows(&mut self, voice: &[u8]) {
+        let (held, many) = (31 * voice.len(), Room::of(voice, 31, STORE_MAX));
+        let too_short = Room::of(voice, 31, held - 1);
+        let full = Room::of(voice, 31, held + voice.len() - 1);
+        for (number, what, room, frame) in [
+            (14, "voice, 31 wait, record past its store", &too_short, voice.to_vec()),
+            (1, "a megabyte, 31 wait", &many, vec![0x55; 1 << 20]),
+            (4, "voice, 31 wait", &many, spoiled(voice.to_vec())),
+            (4, "signalling, 31 wait", &many, spoiled(changed(&signalling(), 7, 10, LONGEST))),
+            (25, "voice, 31 wait, no room", &full, voice.to_vec()),
+        ] {
+            let check = queue_enter(Card, 4, &many, &wrong_check_of(&frame));
+            self.row(number, "queue_enter", what, &frame, both!(queue_enter, number, room, &frame), check);
+        }
+        let check = || queue_take(Card, 4, &Room::of(&wrong_check_of(voice), 31, STORE_MAX), LONGEST);
+        for (number, what, room, octets) in [
+            (26, "none, nothing waits", Room::of(voice, 0, STORE_MAX), LONGEST),
+            (16, "voice, 31 wait, out too short", many, voice.len() - 1),
+        ] {
+            self.row(number, "queue_take", what, voice, both!(queue_take, number, &room, octets), check());
+        }
     }
 }
 
@@ -417,6 +447,50 @@ impl Lines {
     }
 }
 
+/// The calls of a waiting room beside the plain ring, with what took longer than it, and with the calls whose time
+/// depends on how many wait.
+#[derive(Default)]
+struct WaitingRooms {
+    above: Vec<String>,
+}
+
+impl WaitingRooms {
+    fn table(&mut self) {
+        let frame = voice(TYPE_S8);
+        let room = |waiting| Room::of(&frame, waiting, STORE_MAX);
+        println!("| Call | Others waiting | Card, ns | Rust, ns | Ratio |");
+        println!("|---|---:|---:|---:|---:|");
+        let entering = OTHERS.map(|others| both!(queue_enter, 0, &room(others), &frame));
+        let entering = self.rows("queue_enter", entering);
+        let taking = OTHERS.map(|others| both!(queue_take, 0, &room(others + 1), frame.len()));
+        let taking = self.rows("queue_take", taking);
+        println!("\n{entering}\n{taking}");
+    }
+
+    /// Prints the rows of a call and gives the longest over the shortest: all are measured in turn, so that they can
+    /// be held against each other.
+    fn rows(&mut self, call: &str, works: [[Work; 2]; OTHERS.len()]) -> String {
+        let times = best_of(works.into_iter().flatten().collect());
+        for (others, times) in OTHERS.iter().zip(times.chunks_exact(2)) {
+            let (card, rust) = (times[0], times[1]);
+            println!("| {call} | {others} | {card:.1} | {rust:.1} | {:.2} |", ratio(card, rust));
+            if ratio(card, rust) > DONE_MARK {
+                self.above.push(above(&format!("{call}, {others} others waiting"), card, rust));
+            }
+        }
+        let [card, rust] = [0, 1].map(|side| {
+            let times = || times.iter().copied().skip(side).step_by(2);
+            ratio(times().fold(0.0, f64::max), times().fold(f64::INFINITY, f64::min))
+        });
+        if card > WAITING_MARK {
+            self.above.push(format!("{call}: the longest of its rows over the shortest is {card:.2}"));
+        }
+        format!(
+            "- {call}: the longest of its rows over the shortest is {card:.2}, mark {WAITING_MARK:.2}; Rust {rust:.2}."
+        )
+    }
+}
+
 /// What the columns of the foreign stacks are, or that there are none.
 fn foreign_note() -> String {
     let missing: Vec<&str> = NAMES.into_iter().filter(|name| STACKS.iter().all(|stack| stack.name != *name)).collect();
@@ -446,6 +520,7 @@ fn machine() -> String {
 
 fn main() {
     let yardstick = Yardstick::tried();
+    ring::try_against_the_list();
     println!("# Benchmark\n");
     println!("Machine: {}.\n", machine());
     println!(
@@ -500,6 +575,18 @@ fn main() {
     );
     let mut lines = Lines::default();
     lines.table();
+    println!("\n## Waiting room\n");
+    println!(
+        "A voice frame of {} octets enters a store of {STORE_MAX} in which so many others wait, each as long, or is \
+         taken from before them. The Rust is a plain ring in the same store and record: it judges all that the card \
+         does, and is tried against the plain list before it is timed. Before each call HEAD, FIRST and COUNT are put \
+         back, so that always as many wait; that is within every time here and in the refused rows of these two \
+         calls, on both sides alike. All rows of a call are measured in turn, so that they can be held against each \
+         other.\n",
+        voice(TYPE_S8).len()
+    );
+    let mut waiting_rooms = WaitingRooms::default();
+    waiting_rooms.table();
     println!("\n## Above the marks\n");
     list(
         &format!(
@@ -517,4 +604,10 @@ fn main() {
     list(&format!("Refused, above {REFUSED_MARK:.2} times the Rust or above one check by the same call"), &above);
     println!();
     list(&format!("Lines, above {DONE_MARK:.2} times the Rust or above a foreign stack"), &lines.above);
+    println!();
+    let title = format!(
+        "Waiting room, above {DONE_MARK:.2} times the Rust, or the longest row of a call above {WAITING_MARK:.2} times \
+         its shortest"
+    );
+    list(&title, &waiting_rooms.above);
 }

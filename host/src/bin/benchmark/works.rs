@@ -5,6 +5,7 @@
 use crate::timing::{repeated, Work};
 use pelgrant_host::document::{Coding, SAMPLES};
 use pelgrant_host::foreign::Stack;
+use pelgrant_host::queue::{CLOCKS, COUNT, LENGTHS, QUEUE};
 use pelgrant_host::yardstick::Yardstick;
 use pelgrant_host::Calls;
 
@@ -129,6 +130,48 @@ pub fn watch_tell<C: Calls + 'static>(calls: C, number: u8, watch: [u64; 9], eve
     repeated(number, (watch.to_vec(), 0, event, 0, vec![0; 4]), move |(watch, clock, event, flag, answer)| {
         *clock += 3;
         calls.watch_tell(watch, *clock, *event, *clock as u8 & 15, *flag, answer)
+    })
+}
+
+// ---- Waiting rooms: before each call the record's first three numbers are put back, so that as many wait ----
+
+/// A store with its record.
+#[derive(Clone)]
+pub struct Room {
+    store: Vec<u8>,
+    queue: Vec<u32>,
+}
+
+impl Room {
+    /// One frame waits so many times in a store of so many octets, if they hold it.
+    pub fn of(frame: &[u8], waiting: usize, octets: usize) -> Room {
+        let (mut store, mut queue) = (frame.repeat(waiting), vec![0; QUEUE]);
+        store.resize(octets, 0);
+        queue[COUNT] = waiting as u32;
+        queue[LENGTHS..][..waiting].fill(frame.len() as u32);
+        queue[CLOCKS..][..waiting].fill(HOP.from);
+        Room { store, queue }
+    }
+
+    /// HEAD, FIRST and COUNT, the only numbers by which a call changes what waits.
+    fn first_three(&self) -> [u32; LENGTHS] {
+        self.queue[..LENGTHS].try_into().unwrap()
+    }
+}
+
+pub fn queue_enter<C: Calls + 'static>(calls: C, number: u8, room: &Room, frame: &[u8]) -> Work {
+    let lent = (room.clone(), room.first_three(), frame.to_vec(), HOP.to);
+    repeated(number, lent, move |(Room { store, queue }, first_three, frame, clock)| {
+        queue[..LENGTHS].copy_from_slice(first_three);
+        calls.queue_enter(store, queue, frame, *clock)
+    })
+}
+
+pub fn queue_take<C: Calls + 'static>(calls: C, number: u8, room: &Room, octets: usize) -> Work {
+    let lent = (room.clone(), room.first_three(), HOP, vec![0; octets], vec![0]);
+    repeated(number, lent, move |(Room { store, queue }, first_three, hop, out, answer)| {
+        queue[..LENGTHS].copy_from_slice(first_three);
+        calls.queue_take(store, queue, hop.to, hop.level, hop.address, out, answer)
     })
 }
 

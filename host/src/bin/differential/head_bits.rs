@@ -10,9 +10,17 @@ use pelgrant_host::random::Random;
 const KINDS: [(&str, Kind); 2] = [("voice", Kind::Voice), ("signalling", Kind::Signalling)];
 
 /// The calls that read a frame, and those that write one.
-pub const READERS: [Call; 7] =
-    [Call::Forward, Call::Read, Call::Arrive, Call::ArriveValue, Call::SignalRead, Call::Link, Call::Taken];
-const WRITERS: [Call; 3] = [Call::Send, Call::SignalWrite, Call::Forward];
+pub const READERS: [Call; 8] = [
+    Call::Forward,
+    Call::Read,
+    Call::Arrive,
+    Call::ArriveValue,
+    Call::SignalRead,
+    Call::Link,
+    Call::Taken,
+    Call::QueueEnter,
+];
+const WRITERS: [Call; 4] = [Call::Send, Call::SignalWrite, Call::Forward, Call::QueueTake];
 
 fn takes(call: Call, kind: Kind) -> bool {
     match call {
@@ -129,7 +137,7 @@ pub struct Pair {
 }
 
 impl Pair {
-    /// Makes of the one, sent on, what the other has to be sent on as.
+    /// Makes of the one, sent on or kept, what the other has to be sent on or kept as.
     pub fn change_sent(&self, sent: &mut [u8]) {
         change(sent, &self.changed);
     }

@@ -1,6 +1,7 @@
 //! What a call is lent, with a guard before and behind each slice, so that octets written
 //! outside it are seen as well.
 
+use pelgrant_host::queue::QUEUE;
 use pelgrant_host::random::Random;
 use std::fmt::{Debug, Formatter};
 use std::ops::Range;
@@ -53,6 +54,13 @@ pub fn numbers(random: &mut Random, lent: &[u64]) -> Guarded<u64> {
     Guarded::new(random.numbers(GUARD), lent, random.numbers(GUARD))
 }
 
+/// The record of a waiting room.
+pub fn queue(random: &mut Random, lent: &[u32]) -> Guarded<u32> {
+    let mut guard = || random.numbers(GUARD).into_iter().map(|number| number as u32).collect();
+    let (before, behind) = (guard(), guard());
+    Guarded::new(before, lent, behind)
+}
+
 /// Numbers to be written over.
 pub fn slots(random: &mut Random, length: usize) -> Guarded<u64> {
     let unused = random.numbers(length);
@@ -79,6 +87,8 @@ pub struct Lent {
     pub record: Guarded<u64>,
     pub after: Guarded<u64>,
     pub line: Guarded<u8>,
+    pub store: Guarded<u8>,
+    pub queue: Guarded<u32>,
     pub frame: Guarded<u8>,
     pub noise: Guarded<u8>,
     pub samples: Guarded<u8>,
@@ -88,12 +98,14 @@ pub struct Lent {
 }
 
 impl Lent {
-    /// A frame, and what any call that reads one is lent besides: a fresh record with the greatest build-out, and
-    /// room for every answer.
+    /// A frame, and what any call that reads one is lent besides: a fresh record with the greatest build-out, an empty
+    /// waiting room, and room for every answer.
     pub fn to_read(random: &mut Random, frame: &[u8]) -> Lent {
         Lent {
             record: numbers(random, &[199, 0, 0, 0, 0, 0]),
             after: slots(random, 6),
+            store: buffer(random, 490),
+            queue: queue(random, &[0; QUEUE]),
             frame: octets(random, frame),
             samples: buffer(random, 128),
             out: buffer(random, 490),
@@ -110,6 +122,8 @@ impl Lent {
             ("record", self.record == other.record),
             ("after", self.after == other.after),
             ("line", self.line == other.line),
+            ("store", self.store == other.store),
+            ("queue", self.queue == other.queue),
             ("frame", self.frame == other.frame),
             ("noise", self.noise == other.noise),
             ("samples", self.samples == other.samples),

@@ -2,7 +2,8 @@
 //! all that comes back: the number, the answers, and every octet lent and around it.
 //!
 //! `differential [INPUTS [SEED]]`: INPUTS for each call, more for the events of a watch, fewer for the
-//! calls of a line, a tenth as many chains, and fewer again for each bit that a writer sets to 0.
+//! calls of a line and of a waiting room, a tenth as many chains, fewer again for each bit that a writer sets
+//! to 0, and long sequences of calls on one waiting room, which have to go as a plain list does.
 
 mod arrivals;
 mod cases;
@@ -10,6 +11,7 @@ mod head_bits;
 mod inputs;
 mod lent;
 mod lines;
+mod queues;
 mod table;
 mod tally;
 
@@ -22,8 +24,10 @@ use lines::Reading;
 use pelgrant_host::abi::Card;
 use pelgrant_host::document::Coding;
 use pelgrant_host::flat::Document;
+use pelgrant_host::queue::{Room, QUEUE};
 use pelgrant_host::random::Random;
 use pelgrant_host::Calls;
+use queues::{Course, Step, WaitingRoom};
 use std::process::ExitCode;
 use tally::{Call, Tally};
 
@@ -32,6 +36,11 @@ const INPUTS: u64 = 1_000_000;
 const EVENTS: u64 = 6;
 /// Inputs of another call for each of a line: their bits are many.
 const LINES: u64 = 8;
+/// The same for each of a waiting room, and for each fresh record.
+const ROOMS: u64 = 10;
+const FRESH_ROOMS: u64 = 100;
+/// Calls of a sequence on one waiting room.
+const SEQUENCE: u64 = 2000;
 const SEED: u64 = 764;
 const SHOWN: u64 = 10;
 
@@ -52,6 +61,7 @@ struct Run {
     /// The line that the last reading left, with the place answered.
     reading: Option<Reading>,
     line_cases: lines::Cases,
+    queue_cases: queues::Cases,
     /// Lines written and read back, and lines read on behind any bits.
     read_back: u64,
     read_on: u64,
@@ -447,8 +457,8 @@ impl Run {
         }
     }
 
-    /// Bits that are ignored: the card answers two frames that differ in them alike, and sends them on with the
-    /// same difference.
+    /// Bits that are ignored: the card answers two frames that differ in them alike, and sends them on, or keeps them,
+    /// with the same difference.
     fn ignored_bits(&mut self) {
         for (row, case) in Ignored::all().into_iter().enumerate() {
             let pair = case.pair(&mut self.random);
@@ -462,6 +472,9 @@ impl Run {
                     [&one, &other].iter().for_each(|lent| self.head_bits.wrote(call, lent.out.part()));
                     let length = one.answer.part()[0] as usize;
                     pair.change_sent(&mut one.out.part_mut()[..length]);
+                }
+                if call == Call::QueueEnter {
+                    pair.change_sent(&mut one.store.part_mut()[..pair.one.len()]);
                 }
                 // The frames are to be as they came, and all else that is lent the same.
                 let untouched = came.each_ref() == [&one.frame, &other.frame];
@@ -503,6 +516,9 @@ impl Run {
             Call::WatchTell => self.watch_tell(),
             Call::LineAdd => self.line_add(),
             Call::LineNext => self.line_next(),
+            Call::QueueFresh => self.queue_fresh(),
+            Call::QueueEnter => self.queue_enter(),
+            Call::QueueTake => self.queue_take(),
         }
     }
 
@@ -608,6 +624,124 @@ impl Run {
         }
     }
 
+    fn queue_fresh(&mut self) {
+        let faults = Faults::among(&mut self.random, Call::QueueFresh.order());
+        self.fresh_queue(faults);
+    }
+
+    fn fresh_queue(&mut self, faults: Faults) -> Vec<u32> {
+        let random = &mut self.random;
+        let length = if faults.has(FLAT_14) { queues::wrong_length(random) } else { QUEUE };
+        let any: Vec<u32> = random.numbers(length).into_iter().map(|number| number as u32).collect();
+        let lent = Lent { queue: lent::queue(random, &any), ..Lent::default() };
+        let fresh = |calls: &dyn Calls, lent: &mut Lent| calls.queue_fresh(lent.queue.part_mut());
+        let (_, after) = self.compare(Call::QueueFresh, flat(faults), &[], lent, fresh);
+        after.queue.part().to_vec()
+    }
+
+    /// A store of any octets with a fresh record.
+    fn fresh_room(&mut self, octets: usize) -> WaitingRoom {
+        WaitingRoom { store: self.random.octets(octets), queue: self.fresh_queue(Faults::NONE) }
+    }
+
+    fn queue_enter(&mut self) {
+        let random = &mut self.random;
+        let faults = Faults::among(random, Call::QueueEnter.order());
+        let (overwriting, faults) = queues::overwriting(random, faults, 25);
+        let frame = queues::frame(random, faults);
+        let mut room = WaitingRoom::to_enter(random, frame.len(), faults);
+        let overwritten = if overwriting { room.overwrite(random) } else { None };
+        let step = Step::Enter { frame, clock: random.number() as u32 };
+        self.single_step(flat(faults), &room, overwritten, &step);
+    }
+
+    fn queue_take(&mut self) {
+        let random = &mut self.random;
+        let faults = Faults::among(random, Call::QueueTake.order());
+        let (overwriting, faults) = queues::overwriting(random, faults, 26);
+        let frame = queues::waiting_frame(random, faults);
+        let (from, to) = inputs::wait(random);
+        let mut room = WaitingRoom::to_take(random, &frame, from, faults);
+        let overwritten = if overwriting { room.overwrite(random) } else { None };
+        let level = inputs::up_to(random, 3, faults.has(10));
+        let address = inputs::outgoing(random, faults.has(15));
+        let left = frame.get(4).map_or(0, |dropping| dropping & 3);
+        let length = frame.len().saturating_sub(16 * usize::from(left.min(level)));
+        let octets = inputs::room(random, length, faults.has(16));
+        let out = lent::buffer(random, octets);
+        let step = Step::Take { to, level, address, out, answer: self.answer(1, faults) };
+        self.single_step(flat(faults), &room, overwritten, &step);
+    }
+
+    fn single_step(&mut self, flat: Option<usize>, room: &WaitingRoom, overwritten: Option<usize>, step: &Step) {
+        let (number, _) = self.step(flat, room, step);
+        if flat.is_none() {
+            self.queue_cases.met_single(room, overwritten, step, number);
+        }
+    }
+
+    /// One call on a waiting room.
+    fn step(&mut self, flat: Option<usize>, room: &WaitingRoom, step: &Step) -> (u8, Lent) {
+        let random = &mut self.random;
+        let (store, queue) = (lent::octets(random, &room.store), lent::queue(random, &room.queue));
+        let (number, after) = match step {
+            Step::Enter { frame, clock } => {
+                let lent = Lent { store, queue, frame: lent::octets(random, frame), ..Lent::default() };
+                self.compare(Call::QueueEnter, flat, &[(*clock).into()], lent, |calls, lent| {
+                    calls.queue_enter(lent.store.part_mut(), lent.queue.part_mut(), lent.frame.part(), *clock)
+                })
+            }
+            &Step::Take { to, level, address, ref out, ref answer } => {
+                let lent = Lent { store, queue, out: out.clone(), answer: answer.clone(), ..Lent::default() };
+                let numbers = [to.into(), level.into(), address.into()];
+                self.compare(Call::QueueTake, flat, &numbers, lent, |calls, Lent { store, queue, out, answer, .. }| {
+                    let (queue, out, answer) = (queue.part_mut(), out.part_mut(), answer.part_mut());
+                    calls.queue_take(store.part(), queue, to, level, address, out, answer)
+                })
+            }
+        };
+        self.queue_cases.met(room, step, number);
+        (number, after)
+    }
+
+    /// A long sequence of calls on one store from a fresh record on, each handed store and record as the last one
+    /// left them: the answers are those of a plain list that sees neither, and what waits is what it has.
+    fn wait_in_turn(&mut self, store: usize) {
+        let octets = queues::STORES[store];
+        let mut room = self.fresh_room(octets);
+        let (mut list, mut course) = (Room::empty(octets), Course::new(&mut self.random));
+        for _ in 0..SEQUENCE {
+            let step = course.next(&mut self.random);
+            let (waiting, listed) = (list.waiting.len(), step.listed(&mut list));
+            let (number, after) = self.step(step.flat(), &room, &step);
+            room = WaitingRoom::left(&after);
+            self.queue_cases.met_in_turn(store, waiting, &step, number);
+            let answered = (number, after.out.part().to_vec(), after.answer.part().to_vec());
+            let held = Room::of(&room.store, &room.queue);
+            if answered != listed || held.as_ref() != Ok(&list) {
+                self.differs(|| {
+                    println!("different: a store of {octets} octets in a sequence, {step:?}");
+                    println!("  the list answers {listed:?}\n  and has {list:?}");
+                    println!("  the others answer {answered:?}\n  and have {held:?}");
+                });
+                return;
+            }
+        }
+    }
+
+    /// Such a sequence in which the host writes over record and store, and now and then makes the record afresh.
+    fn wait_disturbed(&mut self, store: usize) {
+        let mut room = self.fresh_room(queues::STORES[store]);
+        let mut course = Course::new(&mut self.random);
+        for _ in 0..SEQUENCE {
+            room.disturb(&mut self.random);
+            let step = course.next(&mut self.random);
+            let (number, after) = self.step(step.flat(), &room, &step);
+            room = WaitingRoom::left(&after);
+            self.queue_cases.met_disturbed(store, &step, number);
+        }
+    }
+
     /// Demand 3 through the compiled code: a chain of nodes sends what one node sends, and the
     /// samples read at its end are the originals without their lowest bits.
     fn chain(&mut self) {
@@ -710,10 +844,11 @@ impl Hop {
         [self.level.into(), self.from.into(), self.to.into(), self.address.into()]
     }
 
-    /// Hands the frame that is lent to a call that reads one: to a node on this hop, or to the endpoint at clock 0.
+    /// Hands the frame that is lent to a call that reads one: to a node on this hop or its waiting room, or to the
+    /// endpoint at clock 0.
     fn read_by(self, calls: &dyn Calls, call: Call, lent: &mut Lent) -> u8 {
         let Hop { level, from, to, address } = self;
-        let Lent { record, after, frame, samples, out, answer, .. } = lent;
+        let Lent { record, after, store, queue, frame, samples, out, answer, .. } = lent;
         let (frame, answer, samples) = (frame.part(), answer.part_mut(), samples.part_mut());
         match call {
             Call::Forward => calls.forward(frame, level, from, to, address, out.part_mut(), answer),
@@ -723,6 +858,7 @@ impl Hop {
             Call::SignalRead => calls.signal_read(record.part()[0] as u8, frame, answer),
             Call::Link => calls.link(frame, answer),
             Call::Taken => calls.taken(frame, answer),
+            Call::QueueEnter => calls.queue_enter(store.part_mut(), queue.part_mut(), frame, from),
             _ => unreachable!("{} reads no frame", call.name()),
         }
     }
@@ -758,6 +894,7 @@ fn main() -> ExitCode {
         begun: (Vec::new(), 0),
         reading: None,
         line_cases: lines::Cases::new(),
+        queue_cases: queues::Cases::new(),
         read_back: 0,
         read_on: 0,
     };
@@ -765,6 +902,8 @@ fn main() -> ExitCode {
         let times = match call {
             Call::WatchTell => EVENTS * inputs,
             Call::LineAdd | Call::LineNext => inputs / LINES,
+            Call::QueueFresh => inputs / FRESH_ROOMS,
+            Call::QueueEnter | Call::QueueTake => inputs / ROOMS,
             _ => inputs,
         };
         (0..times).for_each(|_| run.one_input(call));
@@ -774,12 +913,16 @@ fn main() -> ExitCode {
     (0..inputs / 10).for_each(|_| run.chain());
     (0..inputs / 50).for_each(|_| run.read_back());
     (0..inputs / 50).for_each(|_| run.read_on());
+    for store in 0..queues::STORES.len() {
+        (0..inputs.div_ceil(150_000)).for_each(|_| run.wait_in_turn(store));
+        (0..inputs.div_ceil(400_000)).for_each(|_| run.wait_disturbed(store));
+    }
 
     println!("Seed {seed}; . where there can be none\n");
     let calls = ("Inputs by call and refusal", &run.tally.table);
     let mut amiss = Vec::new();
     let others = run.arrivals.tables().into_iter().chain(run.head_bits.tables());
-    let others = others.chain(run.cases.tables()).chain(run.line_cases.tables());
+    let others = others.chain(run.cases.tables()).chain(run.line_cases.tables()).chain(run.queue_cases.tables());
     for (title, table) in std::iter::once(calls).chain(others) {
         println!("{title}");
         table.print();

@@ -21,9 +21,12 @@ pub enum Call {
     WatchTell,
     LineAdd,
     LineNext,
+    QueueFresh,
+    QueueEnter,
+    QueueTake,
 }
 
-pub const CALLS: usize = 16;
+pub const CALLS: usize = 19;
 
 impl Call {
     pub const ALL: [Call; CALLS] = [
@@ -43,6 +46,9 @@ impl Call {
         Call::WatchTell,
         Call::LineAdd,
         Call::LineNext,
+        Call::QueueFresh,
+        Call::QueueEnter,
+        Call::QueueTake,
     ];
 
     pub fn name(self) -> &'static str {
@@ -63,6 +69,9 @@ impl Call {
             Call::WatchTell => "watch_tell",
             Call::LineAdd => "line_add",
             Call::LineNext => "line_next",
+            Call::QueueFresh => "queue_fresh",
+            Call::QueueEnter => "queue_enter",
+            Call::QueueTake => "queue_take",
         }
     }
 
@@ -84,6 +93,9 @@ impl Call {
             Call::WatchTell => &[FLAT_16, FLAT_21, FLAT_14, 21, 14, 18, 12],
             Call::LineAdd => &[FLAT_16, 14, 1, 16],
             Call::LineNext => &[FLAT_16, 14, 22, 23, 1, 16],
+            Call::QueueFresh => &[FLAT_14],
+            Call::QueueEnter => &[FLAT_14, 14, 1, 2, 3, 24, 4, 5, 6, 7, 8, 9, 25],
+            Call::QueueTake => &[FLAT_16, FLAT_14, 14, 26, 10, 15, 1, 2, 3, 24, 4, 5, 6, 7, 8, 9, 16],
         }
     }
 
