@@ -1,17 +1,16 @@
 -- The calls on a queue of numbers: one that is none, and what the call by the record's numbers makes of one that is.
-use Prim.Native.Nat.{ℕ, _+_, _≤_, _<_}
-use mathlib.Core.Path.{_≡_, refl, sym, ap, ap₂, _∙_}
+use Prim.Native.Nat.{ℕ, _+_}
+use mathlib.Core.Path.{_≡_, refl, sym, ap, _∙_}
 use mathlib.Core.Bool.{Bool, not}
-use mathlib.Core.List.{List, [], _∷_, _++_}
+use mathlib.Core.List.{List, [], _∷_}
 use native.Mathlib.Omega.{arith}
 use lib.Dec.{eqb}
 use lib.ListN.{length, take, drop, getD, set, length-set}
 use borrow.Author.Tests.{eq-eqb, ne-eqb}
 use Rattle.refusals.specs.Refusals.{_orElse_, refuse, ifTaken}
-use Rattle.refusals.proofs.RefusalLaws.{orElse-take, orElse-pass, if-taken, if-refused}
-use Rattle.ring.specs.Ring.{Slots}
-use Rattle.room.specs.Rules.{enterStore, takeSent, takeBuffer, takeQueue}
-use Rattle.room.specs.Parts.{bare, queueWith, spotBy, storeBy, stepOf}
+use Rattle.refusals.proofs.RefusalLaws.{orElse-take, if-taken, if-refused}
+use Rattle.room.specs.Rules.{enterStore, takeBuffer}
+use Rattle.room.specs.Parts.{bare, spotBy, storeBy, stepOf}
 use Rattle.room.specs.declared.Queue.{Queue}
 use Rattle.room.specs.declared.Spot.{Spot}
 use Rattle.room.specs.declared.Step.{Step}
@@ -23,9 +22,9 @@ use Rattle.queue.specs.declared.Taken.{Taken}
 use Rattle.queue.proofs.AnswerLaws.{Met, met, Slotted, slotted, entry-refused, entry-done, takenWith, taken-by}
 use Rattle.card.specs.Card.{put, written, short}
 use Rattle.card.proofs.CardLaws.{left-alone, filled}
-use Rattle.card_queue.specs.Queues.{queueOf, queueNumbers, sizeRefusal, keptRefusal, keptEnter, keptStore, keptTake, keptBuffer}
+use Rattle.card_queue.specs.Queues.{queueOf, queueNumbers, keptRefusal, keptEnter, keptStore, keptTake, keptBuffer}
 use Rattle.card_queue.specs.Parts.{excess}
-use Rattle.card_queue.proofs.QueueLaws.{excess-test, kept-is, all-put, numbers-67, lengths-32, clocks-32, slot-stored, head-stored, fits}
+use Rattle.card_queue.proofs.QueueLaws.{excess-test, kept-is, all-put, lengths-32, clocks-32, slot-stored, head-stored, fits}
 
 pub kept-unsized : (kept : List ℕ) → (length kept ≡ 67 → ⊥) → 14 ≡ keptRefusal kept
 unfolding keptRefusal

@@ -1,19 +1,18 @@
 -- The 67 numbers of a queue: which fit, and where each stands.
-use Prim.Native.Nat.{ℕ, zero, suc, _+_, _-_, _*_, _/_, _≤_, _<_}
+use Prim.Native.Nat.{ℕ, zero, suc, _+_, _-_, _/_, _≤_, _<_}
 use mathlib.Core.Path.{_≡_, refl, sym, ap, ap₂, _∙_}
 use mathlib.Core.Bool.{Bool, true, false, not, _||_}
 use mathlib.Core.List.{List, [], _∷_, _++_, append-nil}
 use native.Mathlib.Omega.{arith}
 use lib.Dec.{ltb, eqb}
-use lib.ListN.{length, take, drop, getD, set, length-append, length-set, length-drop, take-append-drop, drop-of-length-le, replicate, getD-replicate}
+use lib.ListN.{length, take, drop, getD, set, length-set, length-drop, take-append-drop, drop-of-length-le, replicate, getD-replicate}
 use lib.Seq.{take-suc, take-all, length-take-le, getD-set-same, getD-set-other, drop-set-add, drop-set-lt, take-set-le, take-set-lt}
-use borrow.Author.Tests.{ltb-true, ltb-false, eq-eqb, ne-eqb}
+use borrow.Author.Tests.{ltb-true, ltb-false, ne-eqb}
 use Rattle.octets.proofs.BoolLaws.{or-false}
 use Rattle.octets.proofs.PartLaws.{copied-more}
-use Rattle.refusals.specs.Refusals.{_orElse_, refuse, ifTaken}
-use Rattle.refusals.proofs.RefusalLaws.{orElse-zero, refuse-zero, if-taken, if-refused}
+use Rattle.refusals.specs.Refusals.{_orElse_}
+use Rattle.refusals.proofs.RefusalLaws.{orElse-zero, refuse-zero}
 use Rattle.ring.specs.Ring.{Slots}
-use Rattle.room.specs.declared.Queue.{Queue}
 use Rattle.queue.specs.Calls.{freshQueue}
 use Rattle.card.specs.Card.{put}
 use Rattle.card.proofs.CardLaws.{sized}
@@ -53,22 +52,21 @@ octets-all [] h i = omega arith
 octets-all (x ∷ xs) h zero = let l : x ≤ 255 = ltb-false _ _ (or-false (ltb 255 x) (anyAbove 255 xs) h .0) in omega arith
 octets-all (x ∷ xs) h (suc i) = octets-all xs (or-false (ltb 255 x) (anyAbove 255 xs) h .1) i
 
+-- 64 numbers are 32 and 32
+halves : (r : List ℕ) → length r ≡ 64 → r ≡ take 32 r ++ take 32 (drop 32 r)
+halves r h = sym (take-append-drop 32 r) ∙ ap (λ (x : List ℕ). take 32 r ++ x) (sym (take-all 32 (drop 32 r) (omega (arith, length-drop 32 r))))
+
 -- the numbers one by one
 pub kept-is : (kept : List ℕ) → length kept ≡ 67 → kept ≡ queueNumbers (queueOf kept)
 kept-is [] h = absurd (omega arith)
 kept-is (a ∷ []) h = absurd (omega arith)
 kept-is (a ∷ b ∷ []) h = absurd (omega arith)
-kept-is (a ∷ b ∷ c ∷ r) h =
-    let l : length (drop 32 r) ≤ 32 = omega (arith, length-drop 32 r) in
-    ap (λ (x : List ℕ). a ∷ b ∷ c ∷ x) (sym (take-append-drop 32 r) ∙ ap (λ (x : List ℕ). take 32 r ++ x) (sym (take-all 32 (drop 32 r) l)))
+kept-is (a ∷ b ∷ c ∷ r) h = ap (λ (x : List ℕ). a ∷ b ∷ c ∷ x) (halves r (omega arith))
 
 -- put over as many, they are all there is
 pub all-put : (values kept : List ℕ) → length kept ≤ length values → put values kept ≡ values
 unfolding put
 all-put values kept h = ap (λ (x : List ℕ). values ++ x) (drop-of-length-le kept {i = length values} h) ∙ append-nil values
-
-pub numbers-67 : (q : Queue) → length (q .lengths) ≡ 32 → length (q .clocks) ≡ 32 → length (queueNumbers q) ≡ 67
-numbers-67 q ll lc = omega (arith, length-append (q .lengths) (q .clocks))
 
 module _ (kept : List ℕ) (h : length kept ≡ 67) where
   pub lengths-32 : length (queueOf kept .lengths) ≡ 32
@@ -110,9 +108,7 @@ pub head-stored : (kept : List ℕ) → length kept ≡ 67 → (x y z : ℕ)
 head-stored [] h x y z = absurd (omega arith)
 head-stored (a ∷ []) h x y z = absurd (omega arith)
 head-stored (a ∷ b ∷ []) h x y z = absurd (omega arith)
-head-stored (a ∷ b ∷ c ∷ r) h x y z =
-    let l : length (drop 32 r) ≤ 32 = omega (arith, length-drop 32 r) in
-    ap (λ (w : List ℕ). x ∷ y ∷ z ∷ w) (sym (take-append-drop 32 r) ∙ ap (λ (w : List ℕ). take 32 r ++ w) (sym (take-all 32 (drop 32 r) l)))
+head-stored (a ∷ b ∷ c ∷ r) h x y z = ap (λ (w : List ℕ). x ∷ y ∷ z ∷ w) (halves r (omega arith))
 
 -- a queue of numbers that fit
 pub fits : (kept : List ℕ) → keptRefusal kept ≡ 0 → (length kept ≡ 67) × Slots (queueOf kept .lengths)

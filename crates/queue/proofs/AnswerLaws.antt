@@ -1,6 +1,6 @@
 -- The calls on a record by value: what its numbers make, and what waits after it.
 use Prim.Native.Nat.{ℕ, _+_, _≤_, _<_}
-use mathlib.Core.Path.{_≡_, refl, sym, ap, ap₂, _∙_}
+use mathlib.Core.Path.{_≡_, sym, ap, ap₂, _∙_}
 use mathlib.Core.List.{List, _++_, append-nil}
 use native.Mathlib.Omega.{arith}
 use lib.ListN.{length, take, drop, set, drop-of-length-le}
@@ -10,7 +10,7 @@ use Rattle.ring.specs.Ring.{placeAfter}
 use Rattle.ring.proofs.RingLaws.{place-below}
 use Rattle.room.specs.Plain.{entered, left}
 use Rattle.room.specs.Waiting.{waiting, outside}
-use Rattle.room.specs.Rules.{enterRefusal, withFrame, enterQueue, enterStore, takeSent, takeBuffer, takeQueue}
+use Rattle.room.specs.Rules.{enterRefusal, withFrame, enterQueue, enterStore, takeBuffer}
 use Rattle.room.specs.Parts.{queueWith, bare, entryBy, spotBy, storeBy, stepOf}
 use Rattle.room.specs.declared.Queue.{Queue}
 use Rattle.room.specs.declared.Spot.{Spot}

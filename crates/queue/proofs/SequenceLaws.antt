@@ -7,9 +7,9 @@ use lib.ListN.{length}
 use borrow.Author.Tests.{le-ltb}
 use Rattle.refusals.specs.Refusals.{_orElse_}
 use Rattle.onward.specs.declared.Sent.{Sent}
-use Rattle.ring.specs.Ring.{turned, sum}
+use Rattle.ring.specs.Ring.{sum}
 use Rattle.room.specs.Plain.{Kept, enterOrder, refusal26, sentPast, bufferPast, entered, left}
-use Rattle.room.specs.Waiting.{cut, waiting, outside, refusal14, Lets}
+use Rattle.room.specs.Waiting.{cut, waiting, outside, Lets}
 use Rattle.room.specs.Rules.{enterRefusal, takeSent, takeBuffer}
 use Rattle.room.specs.declared.Queue.{Queue}
 use Rattle.queue.specs.Calls.{freshQueue, enterAnswer, takeAnswer}

@@ -1,12 +1,12 @@
 -- The two copies of `put` and of `get`, as the code makes them.
 use Prim.Native.Nat.{ℕ, _+_, _-_, _≤_, _<_, min}
-use mathlib.Core.Path.{_≡_, refl, sym, ap, ap₂, _∙_}
+use mathlib.Core.Path.{_≡_, sym, ap, _∙_}
 use mathlib.Core.List.{List, _++_}
 use native.Mathlib.Omega.{arith}
 use lib.ListN.{length, take, drop, length-append, length-take, length-drop, take-append-drop}
 use lib.Seq.{take-all, length-take-le}
 use borrow.Rule.Slice.PartMut.{midOf, putMid}
-use Rattle.octets.proofs.PartLaws.{grown, copied-length}
+use Rattle.octets.proofs.PartLaws.{grown}
 use Rattle.ring.specs.Ring.{turned, laid}
 use Rattle.ring.proofs.RingLaws.{laid-is, placed, gathered}
 

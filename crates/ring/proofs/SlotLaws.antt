@@ -1,11 +1,11 @@
 -- 32 slots as a ring: how many are in use, one more, and the first of them.
 use Prim.Native.Nat.{ℕ, suc, zero, _+_, _-_, _≤_, _<_}
-use mathlib.Core.Path.{_≡_, refl, sym, ap, ap₂, _∙_}
+use mathlib.Core.Path.{_≡_, sym, ap, ap₂, _∙_}
 use mathlib.Core.List.{List, [], _∷_, _++_}
 use native.Mathlib.Omega.{arith}
 use lib.ListN.{length, take, drop, set, getD, length-append, length-drop}
 use lib.Seq.{take-at, drop-cons, take-append-le, length-take-le}
-use Rattle.ring.specs.Ring.{placeAfter, turned, used}
+use Rattle.ring.specs.Ring.{placeAfter, turned}
 use Rattle.ring.proofs.RingLaws.{turned-length, turned-after, place-below, laid-after, set-laid}
 
 -- 32 slots, of which `count` are in use from `first` on

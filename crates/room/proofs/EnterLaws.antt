@@ -5,7 +5,7 @@ use mathlib.Core.Bool.{_||_}
 use mathlib.Core.List.{List, [], _∷_, _++_, append-assoc}
 use native.Mathlib.Omega.{arith}
 use lib.Dec.{ltb, leb}
-use lib.ListN.{length, take, drop, set, length-set, take-append-drop}
+use lib.ListN.{length, take, drop, length-set, take-append-drop}
 use lib.Seq.{take-at, drop-at, length-take-le}
 use borrow.Author.Tests.{ltb-false, leb-false}
 use Rattle.octets.proofs.BoolLaws.{or-false}
@@ -14,16 +14,15 @@ use Rattle.refusals.proofs.RefusalLaws.{orElse-zero, orElse-take, orElse-pass, 
 use Rattle.frame.specs.Orders.{takenRefusal}
 use Rattle.frame.proofs.FrameLaws.{taken-short}
 use Rattle.ring.specs.Ring.{placeAfter, turned, laid, sum}
-use Rattle.ring.proofs.RingLaws.{turned-length, place-within, place-below, laid-after, laid-length}
+use Rattle.ring.proofs.RingLaws.{turned-length, place-within, laid-after, laid-length}
 use Rattle.ring.proofs.SumLaws.{sum-append}
 use Rattle.ring.proofs.SlotLaws.{used-more}
-use Rattle.room.specs.Plain.{Kept, kept, together, refusal25, entered}
+use Rattle.room.specs.Plain.{Kept, kept, entered}
 use Rattle.room.specs.Waiting.{cut, lengthsOf, clocksOf, waiting, refusal14, Lets}
 use Rattle.room.specs.Rules.{enterRefusal, withFrame, enterQueue, enterStore}
-use Rattle.room.specs.Parts.{bare, Judged, entryBy, spotBy, storeBy}
+use Rattle.room.specs.Parts.{Judged, entryBy, spotBy, storeBy}
 use Rattle.room.specs.declared.Queue.{Queue}
 use Rattle.room.specs.declared.Held.{Held}
-use Rattle.room.specs.declared.Spot.{Spot}
 use Rattle.room.proofs.CutLaws.{cut-more, cut-snoc}
 use Rattle.room.proofs.InsideLaws.{by-first, by-taken, if-same, Inside, inside, let-by, as-many, waiting-count, waiting-together}
 

@@ -1,15 +1,15 @@
 -- What is known of a record that 14 lets by, both ways, and of what waits in it.
-use Prim.Native.Nat.{ℕ, suc, zero, _+_, _-_, _≤_, _<_}
-use mathlib.Core.Path.{_≡_, refl, sym, ap, ap₂, _∙_}
+use Prim.Native.Nat.{ℕ, suc, zero, _-_, _≤_, _<_}
+use mathlib.Core.Path.{_≡_, refl, sym, ap, _∙_}
 use mathlib.Core.Bool.{Bool, true, false, _||_}
-use mathlib.Core.List.{List, [], _∷_, _++_}
+use mathlib.Core.List.{List}
 use native.Mathlib.Omega.{arith}
-use lib.Dec.{ltb, leb}
+use lib.Dec.{ltb}
 use lib.ListN.{length}
-use borrow.Author.Tests.{ltb-false, le-ltb, leb-false}
+use borrow.Author.Tests.{ltb-false, le-ltb}
 use Rattle.octets.proofs.BoolLaws.{or-false}
 use Rattle.refusals.specs.Refusals.{_orElse_, refuse, ifTaken}
-use Rattle.refusals.proofs.RefusalLaws.{orElse-zero, refuse-zero}
+use Rattle.refusals.proofs.RefusalLaws.{refuse-zero}
 use Rattle.ring.specs.Ring.{turned, sum}
 use Rattle.ring.proofs.RingLaws.{turned-length}
 use Rattle.ring.proofs.SlotLaws.{used-count}

@@ -1,7 +1,7 @@
 -- The first is to go: by the record's numbers and by the plain list, and what waits once it has gone.
 use Prim.Native.Nat.{ℕ, zero, suc, _+_, _-_, _≤_, _<_}
 use mathlib.Core.Path.{_≡_, refl, sym, subst, ap, ap₂, _∙_}
-use mathlib.Core.List.{List, [], _∷_, _++_}
+use mathlib.Core.List.{List, _∷_, _++_}
 use native.Mathlib.Omega.{arith}
 use lib.Dec.{eqb}
 use lib.ListN.{length, take, drop, getD, length-drop}
@@ -19,7 +19,6 @@ use Rattle.room.specs.Waiting.{cut, lengthsOf, clocksOf, waiting, outsid
 use Rattle.room.specs.Rules.{noneToTake, takeSent, takeBuffer, withoutFirst, takeQueue}
 use Rattle.room.specs.Parts.{queueWith, bare, octetsFrom, stepOf}
 use Rattle.room.specs.declared.Queue.{Queue}
-use Rattle.room.specs.declared.Step.{Step}
 use Rattle.room.proofs.CutLaws.{cut-more}
 use Rattle.room.proofs.InsideLaws.{by-first, by-taken, Inside, inside, let-by, waiting-count}
 

@@ -1,9 +1,8 @@
-use Prim.Native.Nat.{ℕ, _-_, _<_}
-use mathlib.Core.Path.{_≡_, refl, sym, ap, _∙_}
+use Prim.Native.Nat.{_-_, _<_}
+use mathlib.Core.Path.{_≡_, refl, sym, _∙_}
 use native.Mathlib.Omega.{arith}
 use borrow.Author.Needs.{needs}
 use lib.ListN.{length}
-use Rattle.ring.specs.Ring.{placeAfter}
 use Rattle.room.specs.Parts.{queueWith}
 use Rattle.room.specs.declared.Queue.{Queue}
 use Rattle.room.proofs.InsideLaws.{Inside}
