@@ -15,7 +15,7 @@ pub fn place_after(at: u32, ahead: u32, n: u32) -> u32
     if sum < n { sum } else { sum - n }
 }
 
-// The octets from `at` on, round the end: at most two copies. `queue` has judged the place and the room.
+// The octets from `at` on, round the end: at most two copies. `room` has judged the place and the length.
 pub fn lay(store: &mut [u8], at: usize, octets: &[u8])
     requires { ⌜ (at ≤ length (now store)) × (length (now octets) ≤ length (now store)) ⌝ }
     ensures { λ _. ⌜ now (store .exit) ≡ laid at (now (octets .entry)) (now (store .entry)) ⌝ }
@@ -26,7 +26,7 @@ pub fn lay(store: &mut [u8], at: usize, octets: &[u8])
     octets::copy(&octets[k..m], store);
 }
 
-// The n octets from `at` on, round the end, at the front of 255. `queue` has judged the place and the room.
+// The n octets from `at` on, round the end, at the front of 255. `room` has judged the place and the length.
 pub fn gather(store: &[u8], at: usize, n: usize) -> [u8; 255]
     requires { ⌜ (at ≤ length (now store)) × (n ≤ length (now store)) × (n < 256) ⌝ }
     ensures { λ r. ⌜ (take n r ≡ take n (turned at (now (store .entry)))) × (length r ≡ 255) ⌝ }
@@ -44,7 +44,7 @@ fn one_if(holds: bool) -> u32
     if holds { 1 } else { 0 }
 }
 
-// The slots in use, added. All 32 are looked at, however many are in use, and no branch depends on them.
+// The slots in use, added. All 32 are looked at, however many are in use, and no branch depends on them. `room` has judged the record.
 pub fn sum_used(slots: &[u32], first: u32, count: u32) -> u32
     requires { ⌜ Slots (now slots) × (first < 32) × (count ≤ 32) ⌝ }
     ensures { λ r. ⌜ (r ≡ sum (used first count (now (slots .entry)))) × (r < 8192) ⌝ }

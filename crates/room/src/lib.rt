@@ -21,6 +21,7 @@ pub struct Queue {
     pub clocks: [u32; 32],
 }
 
+// What is known of a record once it is judged.
 pub struct Held {
     pub refusal: u8,
     pub used: u32,
@@ -48,7 +49,7 @@ pub struct Spot {
     pub slot: u32,
 }
 
-// Entry by the record's numbers. `enter` and the exported form have 32 lengths, each an octet.
+// Entry by the record's numbers. `queue::enter` and the exported form have 32 lengths, each an octet.
 pub fn enter_by(
     store: &mut [u8],
     head: u32,
@@ -120,7 +121,7 @@ pub struct Step {
     pub count: u32,
 }
 
-// Taking by the record's numbers. `take` and the exported form have 32 lengths, each an octet, and 32 readings.
+// Taking by the record's numbers. `queue::take` and the exported form have 32 lengths, each an octet, and 32 readings.
 pub fn take_by(
     store: &[u8],
     head: u32,
