@@ -8,13 +8,12 @@ use lib.Dec.{eqb}
 use lib.ListN.{length, take, drop, getD, set, length-set}
 use borrow.Author.Tests.{eq-eqb, ne-eqb}
 use Rattle.refusals.specs.Refusals.{_orElse_, refuse, ifTaken}
-use Rattle.refusals.proofs.RefusalLaws.{orElse-take, if-taken, if-refused}
+use Rattle.refusals.proofs.RefusalLaws.{orElse-take, if-taken, if-refused, by-taken}
 use Rattle.room.specs.Rules.{enterStore, takeBuffer}
 use Rattle.room.specs.Parts.{bare, spotBy, storeBy, stepOf}
 use Rattle.room.specs.declared.Queue.{Queue}
 use Rattle.room.specs.declared.Spot.{Spot}
 use Rattle.room.specs.declared.Step.{Step}
-use Rattle.room.proofs.InsideLaws.{by-taken}
 use Rattle.room.proofs.TakeLaws.{after-refused}
 use Rattle.queue.specs.Calls.{enterAnswer, takeAnswer}
 use Rattle.queue.specs.declared.Entered.{Entered}

@@ -49,3 +49,17 @@ done-is q r a b x e z k = k ∙ sym (if-taken q a b (sym e ∙ z))
 pub orElse-assoc : (a b c : ℕ) → a orElse b orElse c ≡ (a orElse b) orElse c
 orElse-assoc zero b c = refl
 orElse-assoc (suc a) b c = refl
+
+-- an order whose first number stands, or whose others agree once it is none
+pub by-first : (a b c : ℕ) → (a ≡ 0 → b ≡ c) → a orElse b ≡ a orElse c
+by-first zero b c h = h refl
+by-first (suc a) b c h = refl
+
+-- a call that is done, or refused
+pub by-taken : {P : Type 0} (r : ℕ) → (r ≡ 0 → P) → ((r ≡ 0 → ⊥) → P) → P
+by-taken zero done refused = done refl
+by-taken (suc r) done refused = refused (λ h. omega arith)
+
+pub if-same : {A : Type 0} (r : ℕ) (a b c : A) → (r ≡ 0 → a ≡ b) → ifTaken r a c ≡ ifTaken r b c
+if-same zero a b c h = h refl
+if-same (suc r) a b c h = refl

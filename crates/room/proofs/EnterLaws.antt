@@ -10,7 +10,7 @@ use lib.Seq.{take-at, drop-at, length-take-le}
 use borrow.Author.Tests.{ltb-false, leb-false}
 use Rattle.octets.proofs.BoolLaws.{or-false}
 use Rattle.refusals.specs.Refusals.{_orElse_, refuse, ifTaken}
-use Rattle.refusals.proofs.RefusalLaws.{orElse-zero, orElse-take, orElse-pass, refuse-zero, if-taken, if-refused}
+use Rattle.refusals.proofs.RefusalLaws.{orElse-zero, orElse-take, orElse-pass, refuse-zero, if-taken, if-refused, by-first, by-taken, if-same}
 use Rattle.frame.specs.Orders.{takenRefusal}
 use Rattle.frame.proofs.FrameLaws.{taken-short}
 use Rattle.ring.specs.Ring.{placeAfter, turned, laid, sum}
@@ -24,7 +24,7 @@ use Rattle.room.specs.Parts.{Judged, entryBy, spotBy, storeBy}
 use Rattle.room.specs.declared.Queue.{Queue}
 use Rattle.room.specs.declared.Held.{Held}
 use Rattle.room.proofs.CutLaws.{cut-more, cut-snoc}
-use Rattle.room.proofs.InsideLaws.{by-first, by-taken, if-same, Inside, inside, let-by, as-many, waiting-count, waiting-together}
+use Rattle.room.proofs.InsideLaws.{Inside, inside, let-by, as-many, waiting-count, waiting-together}
 
 module _ (s : List ℕ) (q : Queue) (f : List ℕ) (ll : length (q .lengths) ≡ 32) (lc : length (q .clocks) ≡ 32) where
   pub by-numbers : entryBy (length s) q f ≡ enterRefusal s q f

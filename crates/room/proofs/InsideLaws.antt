@@ -1,6 +1,6 @@
 -- What is known of a record that 14 lets by, both ways, and of what waits in it.
-use Prim.Native.Nat.{ℕ, suc, zero, _-_, _≤_, _<_}
-use mathlib.Core.Path.{_≡_, refl, sym, ap, _∙_}
+use Prim.Native.Nat.{ℕ, _≤_, _<_}
+use mathlib.Core.Path.{_≡_, sym, ap, _∙_}
 use mathlib.Core.Bool.{Bool, true, false, _||_}
 use mathlib.Core.List.{List}
 use native.Mathlib.Omega.{arith}
@@ -8,7 +8,7 @@ use lib.Dec.{ltb}
 use lib.ListN.{length}
 use borrow.Author.Tests.{ltb-false, le-ltb}
 use Rattle.octets.proofs.BoolLaws.{or-false}
-use Rattle.refusals.specs.Refusals.{_orElse_, refuse, ifTaken}
+use Rattle.refusals.specs.Refusals.{refuse}
 use Rattle.refusals.proofs.RefusalLaws.{refuse-zero}
 use Rattle.ring.specs.Ring.{turned, sum}
 use Rattle.ring.proofs.RingLaws.{turned-length}
@@ -18,20 +18,6 @@ use Rattle.room.specs.Waiting.{lengthsOf, clocksOf, waiting, misplaced, 
 use Rattle.room.specs.Parts.{Judged}
 use Rattle.room.specs.declared.Queue.{Queue}
 use Rattle.room.proofs.CutLaws.{cut-together, cut-count}
-
--- an order whose first number stands, or whose others agree once it is none
-pub by-first : (a b c : ℕ) → (a ≡ 0 → b ≡ c) → a orElse b ≡ a orElse c
-by-first zero b c h = h refl
-by-first (suc a) b c h = refl
-
--- a call that is done, or refused
-pub by-taken : {P : Type 0} (r : ℕ) → (r ≡ 0 → P) → ((r ≡ 0 → ⊥) → P) → P
-by-taken zero done refused = done refl
-by-taken (suc r) done refused = refused (λ h. omega arith)
-
-pub if-same : {A : Type 0} (r : ℕ) (a b c : A) → (r ≡ 0 → a ≡ b) → ifTaken r a c ≡ ifTaken r b c
-if-same zero a b c h = h refl
-if-same (suc r) a b c h = refl
 
 pub record Inside (n : ℕ) (q : Queue) : Type 0 where
   pub store : n ≤ 16384

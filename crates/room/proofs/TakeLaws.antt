@@ -7,7 +7,7 @@ use lib.Dec.{eqb}
 use lib.ListN.{length, take, drop, getD, length-drop}
 use borrow.Author.Tests.{eqb-false}
 use Rattle.refusals.specs.Refusals.{_orElse_, refuse, ifTaken}
-use Rattle.refusals.proofs.RefusalLaws.{orElse-zero, refuse-zero, if-taken, if-refused}
+use Rattle.refusals.proofs.RefusalLaws.{orElse-zero, refuse-zero, if-taken, if-refused, by-first, by-taken}
 use Rattle.onward.specs.Onward.{waitOf}
 use Rattle.onward.specs.declared.Sent.{Sent}
 use Rattle.node.specs.Node.{forwardAnswer, forwardBuffer}
@@ -20,7 +20,7 @@ use Rattle.room.specs.Rules.{noneToTake, takeSent, takeBuffer, withoutFi
 use Rattle.room.specs.Parts.{queueWith, bare, octetsFrom, stepOf}
 use Rattle.room.specs.declared.Queue.{Queue}
 use Rattle.room.proofs.CutLaws.{cut-more}
-use Rattle.room.proofs.InsideLaws.{by-first, by-taken, Inside, inside, let-by, waiting-count}
+use Rattle.room.proofs.InsideLaws.{Inside, inside, let-by, waiting-count}
 
 -- the part of the store that is lent to the node: straight, and put together
 pub straight : (at n : ℕ) (s : List ℕ) → at ≤ length s → n ≤ length s - at → take (at + n - at) (drop at s) ≡ octetsFrom at n s
