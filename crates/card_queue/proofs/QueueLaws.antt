@@ -12,7 +12,7 @@ use Rattle.octets.proofs.BoolLaws.{or-false}
 use Rattle.octets.proofs.PartLaws.{copied-more}
 use Rattle.refusals.specs.Refusals.{_orElse_}
 use Rattle.refusals.proofs.RefusalLaws.{orElse-zero, refuse-zero}
-use Rattle.ring.specs.Ring.{Slots}
+use Rattle.ring.specs.Parts.{Slots}
 use Rattle.queue.specs.Calls.{freshQueue}
 use Rattle.card.specs.Card.{put}
 use Rattle.card.proofs.CardLaws.{sized}

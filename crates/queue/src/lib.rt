@@ -1,7 +1,7 @@
 // The waiting room at a node: frames wait in a lent store, first in, first out, until they are sent on.
 ghost use mathlib.Core.Path.{_≡_};
 ghost use lib.ListN.{length};
-ghost use Rattle.ring.specs.Ring.{Slots};
+ghost use Rattle.ring.specs.Parts.{Slots};
 ghost use Rattle.room.specs.Plain.{entered, left};
 ghost use Rattle.room.specs.Waiting.{waiting};
 ghost use Rattle.room.specs.Rules.{enterStore, takeBuffer};

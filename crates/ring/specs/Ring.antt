@@ -1,10 +1,9 @@
 -- Request A6: places in a ring, where the first comes again after the last.
-use Prim.Native.Nat.{ℕ, _+_, _-_, _<_}
-use mathlib.Core.Path.{_≡_}
+use Prim.Native.Nat.{ℕ, _+_, _-_}
 use mathlib.Core.Bool.{cond}
 use mathlib.Core.List.{List, [], _∷_, _++_}
 use lib.Dec.{ltb}
-use lib.ListN.{length, take, drop, getD}
+use lib.ListN.{length, take, drop}
 
 -- the place `ahead` places after `at`, of n
 abbrev pub placeAfter : ℕ → ℕ → ℕ → ℕ
@@ -25,8 +24,3 @@ used first count xs = take count (turned first xs)
 unfoldable pub sum : List ℕ → ℕ
 sum [] = 0
 sum (x ∷ xs) = x + sum xs
-
--- a ring of 32 octets
-pub record Slots (xs : List ℕ) : Type 0 where
-  pub all : length xs ≡ 32
-  pub octets : (i : ℕ) → getD xs i 0 < 256

@@ -3,7 +3,8 @@ ghost use mathlib.Core.Path.{_≡_};
 ghost use mathlib.Core.Bool.{cond};
 ghost use Prim.Native.Nat.{_+_, _<_, _≤_, _^_};
 ghost use lib.ListN.{length, take};
-ghost use Rattle.ring.specs.Ring.{placeAfter, turned, laid, used, sum, Slots};
+ghost use Rattle.ring.specs.Ring.{placeAfter, turned, laid, used, sum};
+ghost use Rattle.ring.specs.Parts.{Slots};
 use octets::lesser;
 
 // The place `ahead` places after `at`, of n. What stands in a record has been judged before it comes here.

@@ -4,7 +4,7 @@ ghost use Prim.Native.Nat.{_<_, _≤_};
 ghost use lib.ListN.{length};
 ghost use Rattle.onward.specs.Onward.{waitOf};
 ghost use Rattle.node.specs.Node.{forwardAnswer, forwardBuffer};
-ghost use Rattle.ring.specs.Ring.{Slots};
+ghost use Rattle.ring.specs.Parts.{Slots};
 ghost use Rattle.room.specs.Rules.{takeBuffer};
 ghost use Rattle.room.specs.Parts.{queueWith, bare, Judged, spotBy, storeBy, octetsFrom, stepOf};
 use onward::Sent;
