@@ -1,11 +1,11 @@
-// The calls of a waiting room for a host in C or Rust, on numbers and on slices that are lent.
+// The calls for a host in C or Rust that go by the numbers of a queue alone: an empty one, and a question.
 ghost use mathlib.Core.Path.{_≡_};
 ghost use mathlib.Core.List.{[], _∷_};
 ghost use lib.ListN.{length};
-ghost use Rattle.refusals.specs.Refusals.{_orElse_, ifTaken};
+ghost use Rattle.refusals.specs.Refusals.{_orElse_};
 ghost use Rattle.queue.specs.Calls.{freshQueue};
 ghost use Rattle.card.specs.Card.{short, written};
-ghost use Rattle.card_queue.specs.Queues.{queueNumbers, sizeRefusal, keptRefusal, keptEnter, keptStore, keptTake, keptBuffer};
+ghost use Rattle.card_queue.specs.Queues.{queueNumbers, sizeRefusal, keptRefusal, keptFreed};
 ghost use Rattle.card_queue.specs.Parts.{excess};
 use card::put;
 use refusals::refusal_16;
@@ -17,12 +17,12 @@ pub extern "C" fn pelgrant_queue_fresh(kept: &mut [u32]) -> u8
     ensures number { λ r. ⌜ r ≡ sizeRefusal (length (now (kept .entry))) ⌝ }
     ensures kept { λ _. ⌜ now (kept .exit) ≡ written (sizeRefusal (length (now (kept .entry)))) (queueNumbers freshQueue) (now (kept .entry)) ⌝ }
 {
-    let size = refuse(kept.len() != 67, 14);
+    let size = refuse(kept.len() != 70, 14);
     if size != 0 {
         return size;
     }
     let mut i: usize = 0;
-    while i < 67 {
+    while i < 70 {
         kept[i] = 0;
         i += 1;
     }
@@ -44,58 +44,20 @@ fn excess_of(lengths: &[u32]) -> u32
 }
 
 // Judged before any number is taken for its field.
-fn kept_refusal(kept: &[u32]) -> u8
+pub fn kept_refusal(kept: &[u32]) -> u8
     ensures { λ r. ⌜ r ≡ keptRefusal (now (kept .entry)) ⌝ }
 {
-    if kept.len() != 67 {
+    if kept.len() != 70 {
         return 14;
     }
     refuse(excess_of(&kept[3..35]) != 0, 14)
 }
 
-// A frame enters.
+// What a level would give back.
 #[no_mangle]
-pub extern "C" fn pelgrant_queue_enter(
-    store: &mut [u8],
-    kept: &mut [u32],
-    frame: &[u8],
-    clock: u32,
-) -> u8
-    ensures number { λ r. ⌜ r ≡ keptEnter (now (store .entry)) (now (kept .entry)) (now (frame .entry)) clock .refusal ⌝ }
-    ensures store { λ _. ⌜ now (store .exit) ≡ keptStore (now (store .entry)) (now (kept .entry)) (now (frame .entry)) ⌝ }
-    ensures kept { λ _. ⌜ now (kept .exit) ≡ written (keptEnter (now (store .entry)) (now (kept .entry)) (now (frame .entry)) clock .refusal) (queueNumbers (keptEnter (now (store .entry)) (now (kept .entry)) (now (frame .entry)) clock .after)) (now (kept .entry)) ⌝ }
-{
-    let unfit = kept_refusal(kept);
-    if unfit != 0 {
-        return unfit;
-    }
-    let count = kept[2];
-    let spot = room::enter_by(store, kept[0], kept[1], count, &kept[3..35], frame);
-    if spot.refusal != 0 {
-        return spot.refusal;
-    }
-    let slot = spot.slot as usize;
-    kept[2] = count + 1;
-    kept[3 + slot] = frame.len() as u32;
-    kept[35 + slot] = clock;
-    0
-}
-
-// The first frame is to go.
-#[no_mangle]
-pub extern "C" fn pelgrant_queue_take(
-    store: &[u8],
-    kept: &mut [u32],
-    to: u32,
-    level: u8,
-    address: u16,
-    out: &mut [u8],
-    answer: &mut [u64],
-) -> u8
-    ensures number { λ r. ⌜ r ≡ short 1 (now (answer .entry)) orElse keptTake (now (store .entry)) (now (kept .entry)) to level address (now (out .entry)) .refusal ⌝ }
-    ensures answer { λ _. ⌜ now (answer .exit) ≡ written (short 1 (now (answer .entry))) (keptTake (now (store .entry)) (now (kept .entry)) to level address (now (out .entry)) .length ∷ []) (now (answer .entry)) ⌝ }
-    ensures out { λ _. ⌜ now (out .exit) ≡ ifTaken (short 1 (now (answer .entry))) (keptBuffer (now (store .entry)) (now (kept .entry)) to level address (now (out .entry))) (now (out .entry)) ⌝ }
-    ensures kept { λ _. ⌜ now (kept .exit) ≡ written (short 1 (now (answer .entry)) orElse keptTake (now (store .entry)) (now (kept .entry)) to level address (now (out .entry)) .refusal) (queueNumbers (keptTake (now (store .entry)) (now (kept .entry)) to level address (now (out .entry)) .after)) (now (kept .entry)) ⌝ }
+pub extern "C" fn pelgrant_queue_freed(kept: &[u32], level: u8, answer: &mut [u64]) -> u8
+    ensures number { λ r. ⌜ r ≡ short 1 (now (answer .entry)) orElse keptFreed (now (kept .entry)) level .refusal ⌝ }
+    ensures answer { λ _. ⌜ now (answer .exit) ≡ written (short 1 (now (answer .entry))) (keptFreed (now (kept .entry)) level .octets ∷ []) (now (answer .entry)) ⌝ }
 {
     let flat = refusal_16(answer.len(), 1);
     if flat != 0 {
@@ -107,22 +69,8 @@ pub extern "C" fn pelgrant_queue_take(
         put(&none, answer);
         return unfit;
     }
-    let step = room::take_by(
-        store,
-        kept[0],
-        kept[1],
-        kept[2],
-        &kept[3..35],
-        &kept[35..67],
-        to,
-        level,
-        address,
-        out,
-    );
-    let numbers = [step.length as u64];
+    let given = room::freed_by(kept[0], kept[1], kept[2], &kept[67..], level);
+    let numbers = [given.octets as u64];
     put(&numbers, answer);
-    kept[0] = step.head;
-    kept[1] = step.first;
-    kept[2] = step.count;
-    step.refusal
+    given.refusal
 }

@@ -1,3 +1,4 @@
 pub mod AnswerLaws
 pub mod SequenceLaws
+pub mod FreedLaws
 pub mod OneOutcome

@@ -1,4 +1,4 @@
--- Request A6: what each call answers. What is refused, and what store, record and buffer hold after it, are the rules of `room`.
+-- Requests A6 and A7: what each call answers. What is refused, what store, record and buffer hold after it, and what a question is answered with, are the rules of `room`.
 use Prim.Native.Nat.{ℕ}
 use mathlib.Core.List.{List}
 use lib.ListN.{replicate}
@@ -9,7 +9,7 @@ use Rattle.queue.specs.declared.Taken.{Taken}
 
 -- nothing waits
 abbrev pub freshQueue : Queue
-freshQueue = record { head = 0; first = 0; count = 0; lengths = replicate 32 0; clocks = replicate 32 0 }
+freshQueue = record { head = 0; first = 0; count = 0; lengths = replicate 32 0; clocks = replicate 32 0; totals = replicate 3 0 }
 
 unfoldable pub enterAnswer : List ℕ → Queue → List ℕ → ℕ → Entered
 enterAnswer s q f clock = record { refusal = enterRefusal s q f; after = enterQueue s q f clock }

@@ -1,6 +1,8 @@
--- Request A6: any sequence of calls, store and record being handed to each call as the last one left them, and the same calls on a plain list.
-use Prim.Native.Nat.{ℕ}
+-- Request A6: any sequence of calls, store and record being handed to each call as the last one left them, and the same calls on a plain list. A question
+-- (request A7) moves nothing: it may be asked after any of them.
+use Prim.Native.Nat.{ℕ, _+_}
 use mathlib.Core.List.{List, [], _∷_}
+use lib.ListN.{replicate}
 use Rattle.onward.specs.declared.Sent.{Sent}
 use Rattle.room.specs.Plain.{Kept, enterOrder, refusal26, sentPast, bufferPast, entered, left}
 use Rattle.room.specs.Waiting.{waiting}
@@ -42,10 +44,17 @@ unfoldable pub answers : List ℕ → Queue → List Call → List Answer
 answers s q [] = []
 answers s q (c ∷ cs) = answer s q c ∷ answers (storeAfter s q c) (queueAfter s q c) cs
 
--- what waits after all of them
-unfoldable pub afterAll : List ℕ → Queue → List Call → List Kept
-afterAll s q [] = waiting s q
-afterAll s q (c ∷ cs) = afterAll (storeAfter s q c) (queueAfter s q c) cs
+-- store and record after all of them, and what waits then
+unfoldable pub storeAfterAll : List ℕ → Queue → List Call → List ℕ
+storeAfterAll s q [] = s
+storeAfterAll s q (c ∷ cs) = storeAfterAll (storeAfter s q c) (queueAfter s q c) cs
+
+unfoldable pub queueAfterAll : List ℕ → Queue → List Call → Queue
+queueAfterAll s q [] = q
+queueAfterAll s q (c ∷ cs) = queueAfterAll (storeAfter s q c) (queueAfter s q c) cs
+
+abbrev pub afterAll : List ℕ → Queue → List Call → List Kept
+afterAll s q cs = waiting (storeAfterAll s q cs) (queueAfterAll s q cs)
 
 -- on a plain list, with room for n octets
 abbrev pub plainSent : List Kept → ℕ → ℕ → ℕ → List ℕ → Sent
@@ -66,3 +75,11 @@ plainAnswers n w (c ∷ cs) = plainAnswer n w c ∷ plainAnswers n (plainAfter n
 unfoldable pub plainAfterAll : ℕ → List Kept → List Call → List Kept
 plainAfterAll n w [] = w
 plainAfterAll n w (c ∷ cs) = plainAfterAll n (plainAfter n w c) cs
+
+-- request A7: all of n frames are to go at one level; and the lengths that are answered, together
+abbrev pub allGo : ℕ → ℕ → ℕ → ℕ → List ℕ → List Call
+allGo n to level addr out = replicate n (Goes to level addr out)
+
+unfoldable pub sentTogether : List Answer → ℕ
+sentTogether [] = 0
+sentTogether (a ∷ answers) = a .length + sentTogether answers

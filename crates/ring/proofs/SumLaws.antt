@@ -7,7 +7,7 @@ use native.Mathlib.Nat.{mod-eq-of-lt}
 use native.Mathlib.Numerals.{add-one}
 use native.Mathlib.Omega.{arith}
 use lib.Dec.{ltb}
-use lib.ListN.{length, take, drop, getD, length-drop}
+use lib.ListN.{length, take, drop, getD, length-drop, take-append-drop}
 use lib.Seq.{take-suc, take-all, getD-drop, take-append-le, take-append-add, take-take}
 use borrow.Author.Tests.{ltb-true, ltb-false, lt-ltb, le-ltb}
 use Rattle.ring.specs.Ring.{turned, sum}
@@ -16,6 +16,18 @@ pub sum-append : (xs ys : List ℕ) → sum (xs ++ ys) ≡ sum xs + sum ys
 unfolding sum
 sum-append [] ys = omega arith
 sum-append (x ∷ xs) ys = omega (arith, sum-append xs ys)
+
+-- octets, and so those of them that are in use, wherever the ring begins
+pub sum-most : (xs : List ℕ) → ((i : ℕ) → getD xs i 0 < 256) → sum xs ≤ 255 * length xs
+unfolding sum
+sum-most [] h = omega arith
+sum-most (x ∷ xs) h = let l : x < 256 = h 0 in omega (arith, sum-most xs (λ i. h (suc i)))
+
+pub used-most : (first count : ℕ) (xs : List ℕ) → ((i : ℕ) → getD xs i 0 < 256) → sum (take count (turned first xs)) ≤ 255 * length xs
+unfolding turned
+used-most first count xs h =
+    let parts : (n : ℕ) (ys : List ℕ) → sum (take n ys) + sum (drop n ys) ≡ sum ys = λ n ys. sym (sum-append (take n ys) (drop n ys)) ∙ ap sum (take-append-drop n ys) in
+    omega (arith, sum-most xs h, parts first xs, sum-append (drop first xs) (take first xs), parts count (drop first xs ++ take first xs))
 
 -- of the first m of a list, those before i
 unfoldable pub upTo : ℕ → ℕ → List ℕ → ℕ

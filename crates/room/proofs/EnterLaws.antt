@@ -17,14 +17,19 @@ use Rattle.ring.specs.Ring.{placeAfter, turned, laid, sum}
 use Rattle.ring.proofs.RingLaws.{turned-length, place-within, laid-after, laid-length}
 use Rattle.ring.proofs.SumLaws.{sum-append}
 use Rattle.ring.proofs.SlotLaws.{used-more}
+use Rattle.totals.specs.Totals.{gives, total, raised}
+use Rattle.totals.specs.Parts.{droppable}
+use Rattle.totals.proofs.TotalsLaws.{gives-most, none-overfull}
 use Rattle.room.specs.Plain.{Kept, kept, entered}
-use Rattle.room.specs.Waiting.{cut, lengthsOf, clocksOf, waiting, refusal14, Lets}
+use Rattle.room.specs.Waiting.{cut, lengthsOf, clocksOf, waiting, refusal14, Lets, Covered}
 use Rattle.room.specs.Rules.{enterRefusal, withFrame, enterQueue, enterStore}
 use Rattle.room.specs.Parts.{Judged, entryBy, spotBy, storeBy}
 use Rattle.room.specs.declared.Queue.{Queue}
 use Rattle.room.specs.declared.Held.{Held}
+use Rattle.room.specs.declared.Spot.{Spot}
 use Rattle.room.proofs.CutLaws.{cut-more, cut-snoc}
 use Rattle.room.proofs.InsideLaws.{Inside, inside, let-by, as-many, waiting-count, waiting-together}
+use Rattle.room.proofs.GivesLaws.{gives-all-most}
 
 module _ (s : List ℕ) (q : Queue) (f : List ℕ) (ll : length (q .lengths) ≡ 32) (lc : length (q .clocks) ≡ 32) where
   pub by-numbers : entryBy (length s) q f ≡ enterRefusal s q f
@@ -78,9 +83,9 @@ module _ (s : List ℕ) (q : Queue) (f : List ℕ) (clock : ℕ) (ll : length (q
       ∙ cut-snoc T (lengthsOf q) (clocksOf q) (length f) clock (as-many s q ll lc (y .inside))
       ∙ ap₂ (λ (w : List Kept) (x : List ℕ). w ++ kept x clock ∷ []) old new
 
-  pub still-inside : Inside (length (storeWith s q f)) (withFrame q f clock)
-  unfolding withFrame sum
-  still-inside =
+  pub still-inside : Covered s q → Inside (length (storeWith s q f)) (withFrame q f clock)
+  unfolding withFrame sum raised
+  still-inside covered =
       let e : sum (lengthsOf (withFrame q f clock)) ≡ sum (lengthsOf q) + length f =
       ap sum (used-more (q .lengths) (q .first) (q .count) ll (y .inside .slot) (length f) (y .few)) ∙ sum-append (lengthsOf q) (length f ∷ []) ∙ omega arith in
       record {
@@ -89,6 +94,9 @@ module _ (s : List ℕ) (q : Queue) (f : List ℕ) (clock : ℕ) (ll : length (q
         slot = y .inside .slot;
         place = omega (arith, same-size, y .inside .place);
         all = omega (arith, same-size, y .room);
+        totals =
+            none-overfull (λ level. total (q .totals) level + gives level f)
+            (λ level. omega (arith, covered level, gives-most level f, gives-all-most level (waiting s q), waiting-count s q ll lc (y .inside), y .few));
       }
 
 module _ (s : List ℕ) (q : Queue) (f : List ℕ) (ll : length (q .lengths) ≡ 32) (lc : length (q .clocks) ≡ 32) where
@@ -130,16 +138,17 @@ module _ (s : List ℕ) (q : Queue) (f : List ℕ) (ll : length (q .lengths) ≡
         (λ z. ap₂ waiting (stored z) (with-it z) ∙ waits-behind s q f clock ll lc (let-in z) ∙ sym (if-taken (enterRefusal s q f) (waiting s q ++ kept f clock ∷ []) (waiting s q) z))
         (λ h. ap₂ waiting (unstored h) (without-it h) ∙ sym (if-refused (enterRefusal s q f) (waiting s q ++ kept f clock ∷ []) (waiting s q) h))
 
-    -- what 14 lets by it lets by again
-    pub enter-lets : Lets (length s) q → Lets (length (enterStore s q f)) (enterQueue s q f clock)
-    unfolding withFrame
-    enter-lets l =
+    -- what 14 lets by it lets by again, as long as no total is above the sum of what waits
+    pub enter-lets : Lets (length s) q → Covered s q → Lets (length (enterStore s q f)) (enterQueue s q f clock)
+    unfolding withFrame raised
+    enter-lets l covered =
         by-taken (enterRefusal s q f)
         (λ z. subst (λ (p : Queue). Lets (length (enterStore s q f)) p) (sym (with-it z))
         (record {
           lengths-32 = length-set (q .lengths) (placeAfter (q .first) (q .count) 32) (length f) ∙ ll;
           clocks-32 = length-set (q .clocks) (placeAfter (q .first) (q .count) 32) clock ∙ lc;
-          inside = rw (stored z) (let-by (length (storeWith s q f)) (withFrame q f clock) (still-inside s q f clock ll lc (let-in z)));
+          totals-3 = refl;
+          inside = rw (stored z) (let-by (length (storeWith s q f)) (withFrame q f clock) (still-inside s q f clock ll lc (let-in z) covered));
         }))
         (λ h. rw (unstored h, without-it h) l)
 
@@ -159,19 +168,23 @@ module _ (n : ℕ) (q : Queue) (f : List ℕ) (k : Held) (j : Judged n q k) wher
       orElse-pass _ _ (k .refusal) r (j .number) z
       (orElse-pass _ _ b r e zb (er ∙ ap (λ (u : ℕ). refuse (leb 32 (q .count) || ltb n (u + length f)) 25) (j .used z)))
 
+spot : {a b c x y z : ℕ} → a ≡ x → b ≡ y → c ≡ z → _≡_ {A = Spot} (record { refusal = a; slot = b; blocks = c }) (record { refusal = x; slot = y; blocks = z })
+spot e f g = cc
+
 module _ (s : List ℕ) (q : Queue) (f : List ℕ) (r : ℕ) (e : r ≡ entryBy (length s) q f) where
-  pub spot-refused : (r ≡ 0 → ⊥) → (record { refusal = r; slot = 0 } ≡ spotBy (length s) q f) × (s ≡ storeBy s q f)
+  pub spot-refused : (r ≡ 0 → ⊥) → (record { refusal = r; slot = 0; blocks = 0 } ≡ spotBy (length s) q f) × (s ≡ storeBy s q f)
   unfolding spotBy storeBy
   spot-refused h =
       let n : entryBy (length s) q f ≡ 0 → ⊥ = λ z. h (e ∙ z) in
-      (ap₂ (λ (x y : ℕ). record { refusal = x; slot = y }) e (sym (if-refused (entryBy (length s) q f) _ 0 n)), sym (if-refused (entryBy (length s) q f) _ s n))
+      (spot e (sym (if-refused (entryBy (length s) q f) _ 0 n)) (sym (if-refused (entryBy (length s) q f) _ 0 n)), sym (if-refused (entryBy (length s) q f) _ s n))
 
-  pub spot-done : (slot u : ℕ) (t : List ℕ) → r ≡ 0 → slot ≡ placeAfter (q .first) (q .count) 32 → u ≡ sum (lengthsOf q) → t ≡ laid (placeAfter (q .head) u (length s)) f s
-      → (record { refusal = 0; slot = slot } ≡ spotBy (length s) q f) × (t ≡ storeBy s q f)
+  pub spot-done : (slot blocks u : ℕ) (t : List ℕ) → r ≡ 0 → slot ≡ placeAfter (q .first) (q .count) 32 → blocks ≡ droppable f → u ≡ sum (lengthsOf q)
+      → t ≡ laid (placeAfter (q .head) u (length s)) f s
+      → (record { refusal = 0; slot = slot; blocks = blocks } ≡ spotBy (length s) q f) × (t ≡ storeBy s q f)
   unfolding spotBy storeBy
-  spot-done slot u t z es eu et =
+  spot-done slot blocks u t z es eb eu et =
       let n : entryBy (length s) q f ≡ 0 = sym e ∙ z in (
-        ap₂ (λ (x y : ℕ). record { refusal = x; slot = y }) (sym n) (es ∙ sym (if-taken (entryBy (length s) q f) _ 0 n)),
+        spot (sym n) (es ∙ sym (if-taken (entryBy (length s) q f) _ 0 n)) (eb ∙ sym (if-taken (entryBy (length s) q f) _ 0 n)),
         et ∙ ap (λ (k : ℕ). laid (placeAfter (q .head) k (length s)) f s) eu ∙ sym (if-taken (entryBy (length s) q f) _ s n),
       )
 

@@ -1,4 +1,4 @@
--- Request A6: the waiting room as a plain list, the first to leave first.
+-- Requests A6 and A7: the waiting room as a plain list, the first to leave first.
 use Prim.Native.Nat.{ℕ, _+_}
 use mathlib.Core.Bool.{_||_}
 use mathlib.Core.List.{List, [], _∷_, _++_}
@@ -9,6 +9,7 @@ use Rattle.frame.specs.Orders.{takenRefusal}
 use Rattle.onward.specs.Onward.{waitOf}
 use Rattle.onward.specs.declared.Sent.{Sent}
 use Rattle.node.specs.Node.{forwardAnswer, forwardBuffer}
+use Rattle.totals.specs.Totals.{gives}
 
 -- a frame that waits, with the clock reading at its arrival
 pub record Kept : Type 0 where
@@ -60,3 +61,8 @@ entered refusal w f clock = ifTaken refusal (w ++ kept f clock ∷ []) w
 
 abbrev pub left : ℕ → List Kept → List Kept
 left refusal w = ifTaken refusal (drop 1 w) w
+
+-- request A7: the octets that a level gives back of all that wait, the full sum
+unfoldable pub givesAll : ℕ → List Kept → ℕ
+givesAll level [] = 0
+givesAll level (k ∷ w) = gives level (k .octets) + givesAll level w

@@ -12,29 +12,29 @@ use Rattle.room.proofs.enter_by.Tie as tie
 
 -- the record that the numbers make
 abbrev asked : tie.Start → Queue
-asked s = bare (s .args .head) (s .args .first) (s .args .count) (s .args .lengths .now)
+asked s = bare (s .args .head) (s .args .first) (s .args .count) (s .args .lengths .now) (s .args .totals .now)
 
 -- once nothing is refused
-number : (c : tie.Else3) → c .before .refuse .result ≡ entryBy (length (c .before .before .before .before .before .before .before .before .before .before .before .args .store .now)) (asked (c .before .before .before .before .before .before .before .before .before .before .before)) (c .before .before .before .before .before .before .before .before .before .before .before .args .frame .now)
+number : (c : tie.Else3) → c .before .refuse .result ≡ entryBy (length (c .before .before .before .before .before .before .before .before .before .before .before .before .args .store .now)) (asked (c .before .before .before .before .before .before .before .before .before .before .before .before)) (c .before .before .before .before .before .before .before .before .before .before .before .before .args .frame .now)
 number c =
     let j = c .before .before .before .before .before .before .before in
-    let s = c .before .before .before .before .before .before .before .before .before .before .before in
+    let s = c .before .before .before .before .before .before .before .before .before .before .before .before in
     at-room (length (s .args .store .now)) (asked s) (s .args .frame .now) (j .judge .result) (j .judge .ensures) (c .before .before .before .before .taken-refusal .result) (c .before .refuse .result)
     (c .before .before .before .before .before .if1 .left) (c .before .before .before .before .taken-refusal .ensures) (c .before .before .before .if2 .left) (c .before .refuse .ensures)
 
-in-hand : (c : tie.Else3) → Ready (length (c .before .before .before .before .before .before .before .before .before .before .before .args .store .now)) (asked (c .before .before .before .before .before .before .before .before .before .before .before)) (c .before .before .before .before .before .before .before .before .before .before .before .args .frame .now) (c .before .before .before .before .before .before .before .judge .result .used)
+in-hand : (c : tie.Else3) → Ready (length (c .before .before .before .before .before .before .before .before .before .before .before .before .args .store .now)) (asked (c .before .before .before .before .before .before .before .before .before .before .before .before)) (c .before .before .before .before .before .before .before .before .before .before .before .before .args .frame .now) (c .before .before .before .before .before .before .before .judge .result .used)
 in-hand c =
     let j = c .before .before .before .before .before .before .before in
-    let s = c .before .before .before .before .before .before .before .before .before .before .before in
+    let s = c .before .before .before .before .before .before .before .before .before .before .before .before in
     ready (length (s .args .store .now)) (asked s) (s .args .frame .now) (c .before .refuse .result) (j .judge .result .used) (number c) (c .if3 .left) (j .judge .ensures .used (c .before .before .before .before .before .if1 .left))
 
 judge-requires : tie.Need-judge-requires
-judge-requires c κs = c .before .before .before .pre
+judge-requires c κs = c .before .before .before .before .pre
 
 returns : tie.Need-returns
 returns c =
     let j = c .before .before in
-    let s = c .before .before .before .before .before .before in
+    let s = c .before .before .before .before .before .before .before in
     spot-refused (s .args .store .now) (asked s) (s .args .frame .now) (j .judge .result .refusal) (at-14 (length (s .args .store .now)) (asked s) (s .args .frame .now) (j .judge .result) (j .judge .ensures) (c .if1 .taken)) (c .if1 .taken)
 
 taken-refusal-requires : tie.Need-taken-refusal-requires
@@ -43,7 +43,7 @@ taken-refusal-requires c κs = tt
 returns-2 : tie.Need-returns-2
 returns-2 c =
     let j = c .before .before .before .before in
-    let s = c .before .before .before .before .before .before .before .before in
+    let s = c .before .before .before .before .before .before .before .before .before in
     let b = c .before .taken-refusal in
     spot-refused (s .args .store .now) (asked s) (s .args .frame .now) (b .result)
     (at-checks (length (s .args .store .now)) (asked s) (s .args .frame .now) (j .judge .result) (j .judge .ensures) (b .result) (c .before .before .if1 .left) (b .ensures) (c .if2 .taken)) (c .if2 .taken)
@@ -60,7 +60,7 @@ refuse-requires c κs = tt
 returns-3 : tie.Need-returns-3
 returns-3 c =
     let j = c .before .before .before .before .before .before .before in
-    let s = c .before .before .before .before .before .before .before .before .before .before .before in
+    let s = c .before .before .before .before .before .before .before .before .before .before .before .before in
     let b = c .before .before .before .before .taken-refusal in
     spot-refused (s .args .store .now) (asked s) (s .args .frame .now) (c .before .refuse .result)
     (at-room (length (s .args .store .now)) (asked s) (s .args .frame .now) (j .judge .result) (j .judge .ensures) (b .result) (c .before .refuse .result)
@@ -86,16 +86,19 @@ place-after-requires-2 c κs = let y = in-hand (c .before .before .before .befor
 same-length : tie.Need-same-length
 same-length c = search needs
 
+droppable-requires : tie.Need-droppable-requires
+droppable-requires c κs = tt
+
 returns-4 : tie.Need-returns-4
 returns-4 c =
-    let d = c .before .before .before .before .before .before in
+    let e = c .before in
+    let d = e .before .before .before .before .before .before in
     let j = d .before .before .before .before .before .before .before in
-    let s = d .before .before .before .before .before .before .before .before .before .before .before in
-    let p = c .before .before .before .before .before .place-after in
-    let y = in-hand d in
-    spot-done (s .args .store .now) (asked s) (s .args .frame .now) (d .before .refuse .result) (number d) (c .place-after2 .result) (j .judge .result .used) _ (d .if3 .left) (c .place-after2 .ensures)
-    (j .judge .ensures .used (d .before .before .before .before .before .if1 .left))
-    (c .before .before .before .lay .ensures ∙ ap (λ (k : ℕ). laid k (s .args .frame .now) (s .args .store .now)) (p .ensures))
+    let s = d .before .before .before .before .before .before .before .before .before .before .before .before in
+    let p = e .before .before .before .before .before .place-after in
+    spot-done (s .args .store .now) (asked s) (s .args .frame .now) (d .before .refuse .result) (number d) (e .place-after2 .result) (c .droppable .result) (j .judge .result .used) _ (d .if3 .left) (e .place-after2 .ensures)
+    (c .droppable .ensures .0) (j .judge .ensures .used (d .before .before .before .before .before .if1 .left))
+    (e .before .before .before .lay .ensures ∙ ap (λ (k : ℕ). laid k (s .args .frame .now) (s .args .store .now)) (p .ensures))
 
 pub enter-by-spec : {M : Type 1} → statement M
 enter-by-spec =
@@ -114,5 +117,6 @@ enter-by-spec =
     cast-lay
     lay-requires
     place-after-requires-2
+    droppable-requires
     same-length
     returns-4)

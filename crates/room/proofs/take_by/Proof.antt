@@ -11,16 +11,16 @@ use Rattle.room.proofs.take_by.Statement.{statement}
 use Rattle.room.proofs.take_by.Tie as tie
 
 abbrev asked : tie.Start → Queue
-asked s = queueWith (s .args .head) (s .args .first) (s .args .count) (s .args .lengths .now) (s .args .clocks .now)
+asked s = queueWith (s .args .head) (s .args .first) (s .args .count) (s .args .lengths .now) (s .args .clocks .now) (s .args .totals .now)
 
 abbrev start : tie.After-or-else → tie.Start
-start o = o .before .before .before .before .before .before .before
+start o = o .before .before .before .before .before .before .before .before
 
 number : (o : tie.After-or-else) → o .or-else .result ≡ noneBy (length (start o .args .store .now)) (asked (start o))
 number o =
     let a = start o .args in
     let j = o .before .before .judge in
-    none-by (length (a .store .now)) (a .head) (a .first) (a .count) (a .lengths .now) (a .clocks .now) (o .or-else .result) (j .result .refusal) (o .before .refuse .result) (j .ensures .number) (o .before .refuse .ensures) (o .or-else .ensures)
+    none-by (length (a .store .now)) (a .head) (a .first) (a .count) (a .lengths .now) (a .clocks .now) (a .totals .now) (o .or-else .result) (j .result .refusal) (o .before .refuse .result) (j .ensures .number) (o .before .refuse .ensures) (o .or-else .ensures)
 
 none : (c : tie.Else1) → noneBy (length (start (c .before) .args .store .now)) (asked (start (c .before))) ≡ 0
 none c = sym (number (c .before)) ∙ c .if1 .left
@@ -29,7 +29,7 @@ waits : (c : tie.Else1) → Inside (length (start (c .before) .args .store .now)
 waits c = some-wait (length (start (c .before) .args .store .now)) (asked (start (c .before))) (none c)
 
 judge-requires : tie.Need-judge-requires
-judge-requires c κs = c .before .before .before .before .pre .0
+judge-requires c κs = let p = c .before .before .before .before .before .pre in (p .0, p .2)
 
 refuse-requires : tie.Need-refuse-requires
 refuse-requires c κs = tt
@@ -76,6 +76,9 @@ returns-2 c =
     let a = s .args in
     step-refused (a .store .now) (asked s) (s .pre .0 .all) (s .pre .1) (a .to) (a .level) (a .address) (a .out .now) (v .send-on .result) _ (none d) (v .send-on .ensures) (c .if2 .taken)
 
+sub-others : tie.Need-sub-others
+sub-others c = let w = waits (c .before .before .before .before .before .before .before .before) in omega (arith, w .1)
+
 cast-place-after : tie.Need-cast-place-after
 cast-place-after c = let w = waits (c .before .before .before .before .before .before .before .before) in omega (arith, w .0 .store)
 
@@ -88,9 +91,6 @@ place-after-requires c κs =
 
 place-after-requires-2 : tie.Need-place-after-requires-2
 place-after-requires-2 c κs = let w = waits (c .before .before .before .before .before .before .before .before .before) in omega (arith, w .0 .slot)
-
-sub-t29 : tie.Need-sub-t29
-sub-t29 c = let w = waits (c .before .before .before .before .before .before .before .before .before .before) in omega (arith, w .1)
 
 same-length-2 : tie.Need-same-length-2
 same-length-2 c = search needs
@@ -120,9 +120,9 @@ take-by-spec =
     send-on-requires
     same-length
     returns-2
+    sub-others
     cast-place-after
     place-after-requires
     place-after-requires-2
-    sub-t29
     same-length-2
     returns-3)
