@@ -1,3 +1,2 @@
 pub mod QueueLaws
-pub mod CallLaws
 pub mod OneOutcome

@@ -1,23 +1,15 @@
--- Of each exported call of a waiting room, two outcomes that the promise allows are equal: its number, and every slice that is lent.
+-- Of each exported call that goes by a queue's numbers alone, two outcomes that the promise allows are equal: its number, and every slice that is lent.
 use Prim.Native.Nat.{ℕ}
 use mathlib.Core.List.{List, [], _∷_}
 use lib.ListN.{length}
-use Rattle.refusals.specs.Refusals.{_orElse_, ifTaken}
 use Rattle.queue.specs.Calls.{freshQueue}
 use Rattle.card.specs.Card.{short, written}
 use Rattle.card.proofs.OneOutcome.{One, one, Answers, answers}
-use Rattle.card_queue.specs.Queues.{queueNumbers, sizeRefusal, keptEnter, keptStore, keptTake, keptBuffer}
+use Rattle.card_queue.specs.Queues.{queueNumbers, sizeRefusal, keptFreed}
 
 module _ (kept : List ℕ) where
   pub queue-fresh-one : One (sizeRefusal (length kept)) × One (written (sizeRefusal (length kept)) (queueNumbers freshQueue) kept)
   queue-fresh-one = (one _, one _)
 
-  pub queue-enter-one : (store frame : List ℕ) (clock : ℕ) → let a = keptEnter store kept frame clock in
-      One (a .refusal) × One (keptStore store kept frame) × One (written (a .refusal) (queueNumbers (a .after)) kept)
-  queue-enter-one store frame clock = (one _, one _, one _)
-
-  pub queue-take-one : (store : List ℕ) (to level addr : ℕ) (out answer : List ℕ) → let a = keptTake store kept to level addr out in
-      Answers (short 1 answer) (a .refusal) (a .length ∷ []) answer
-      × One (ifTaken (short 1 answer) (keptBuffer store kept to level addr out) out)
-      × One (written (short 1 answer orElse a .refusal) (queueNumbers (a .after)) kept)
-  queue-take-one store to level addr out answer = (answers _ _ _ answer, one _, one _)
+  pub queue-freed-one : (level : ℕ) (answer : List ℕ) → let a = keptFreed kept level in Answers (short 1 answer) (a .refusal) (a .octets ∷ []) answer
+  queue-freed-one level answer = answers _ _ _ answer

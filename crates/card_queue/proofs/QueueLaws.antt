@@ -1,22 +1,27 @@
--- The 67 numbers of a queue: which fit, and where each stands.
-use Prim.Native.Nat.{ℕ, zero, suc, _+_, _-_, _/_, _≤_, _<_}
-use mathlib.Core.Path.{_≡_, refl, sym, ap, ap₂, _∙_}
+-- The 70 numbers of a queue: which fit, and where each stands.
+use Prim.Native.Nat.{ℕ, suc, _+_, _-_, _/_, _≤_, _<_}
+use mathlib.Core.Path.{_≡_, refl, sym, ap, _∙_}
 use mathlib.Core.Bool.{Bool, true, false, not, _||_}
 use mathlib.Core.List.{List, [], _∷_, _++_, append-nil}
 use native.Mathlib.Omega.{arith}
 use lib.Dec.{ltb, eqb}
-use lib.ListN.{length, take, drop, getD, set, length-set, length-drop, take-append-drop, drop-of-length-le, replicate, getD-replicate}
-use lib.Seq.{take-suc, take-all, length-take-le, getD-set-same, getD-set-other, drop-set-add, drop-set-lt, take-set-le, take-set-lt}
-use borrow.Author.Tests.{ltb-true, ltb-false, ne-eqb}
-use Rattle.octets.proofs.BoolLaws.{or-false}
+use lib.ListN.{length, take, drop, getD, set, length-drop, take-append-drop, drop-of-length-le, replicate, getD-replicate}
+use lib.Seq.{take-suc, take-add, take-all, length-take-le}
+use borrow.Author.Tests.{ltb-true, ltb-false, eq-eqb, ne-eqb}
 use Rattle.octets.proofs.PartLaws.{copied-more}
-use Rattle.refusals.specs.Refusals.{_orElse_}
-use Rattle.refusals.proofs.RefusalLaws.{orElse-zero, refuse-zero}
+use Rattle.refusals.specs.Refusals.{_orElse_, refuse}
+use Rattle.refusals.proofs.RefusalLaws.{orElse-zero, refuse-zero, refused-is, done-is}
 use Rattle.ring.specs.Parts.{Slots}
+use Rattle.totals.specs.Totals.{anyAbove}
+use Rattle.totals.proofs.TotalsLaws.{none-above}
+use Rattle.room.specs.Rules.{freedAnswer}
+use Rattle.room.specs.Parts.{bare}
+use Rattle.room.specs.declared.GivenBack.{GivenBack}
+use Rattle.room.proofs.FreedLaws.{freed-bare}
 use Rattle.queue.specs.Calls.{freshQueue}
-use Rattle.card.specs.Card.{put}
-use Rattle.card.proofs.CardLaws.{sized}
-use Rattle.card_queue.specs.Queues.{queueOf, queueNumbers, anyAbove, keptRefusal}
+use Rattle.card.specs.Card.{put, short, written}
+use Rattle.card.proofs.CardLaws.{sized, called}
+use Rattle.card_queue.specs.Queues.{queueOf, queueNumbers, keptRefusal, keptFreed}
 use Rattle.card_queue.specs.Parts.{excess}
 
 pub excess-append : (xs ys : List ℕ) → excess (xs ++ ys) ≡ excess xs + excess ys
@@ -46,83 +51,86 @@ unfolding excess anyAbove
 excess-test [] = refl
 excess-test (x ∷ xs) = one-test x (excess xs) (anyAbove 255 xs) (excess-test xs)
 
-pub octets-all : (xs : List ℕ) → anyAbove 255 xs ≡ false → (i : ℕ) → getD xs i 0 < 256
-unfolding anyAbove
-octets-all [] h i = omega arith
-octets-all (x ∷ xs) h zero = let l : x ≤ 255 = ltb-false _ _ (or-false (ltb 255 x) (anyAbove 255 xs) h .0) in omega arith
-octets-all (x ∷ xs) h (suc i) = octets-all xs (or-false (ltb 255 x) (anyAbove 255 xs) h .1) i
+-- the first 67 numbers one by one
+pub first-67 : (kept : List ℕ) → length kept ≡ 70 → take 67 kept ≡ getD kept 0 0 ∷ getD kept 1 0 ∷ getD kept 2 0 ∷ (queueOf kept .lengths ++ queueOf kept .clocks)
+first-67 [] h = absurd (omega arith)
+first-67 (a ∷ []) h = absurd (omega arith)
+first-67 (a ∷ b ∷ []) h = absurd (omega arith)
+first-67 (a ∷ b ∷ c ∷ r) h = ap (λ (x : List ℕ). a ∷ b ∷ c ∷ x) (take-add 32 32 r)
 
--- 64 numbers are 32 and 32
-halves : (r : List ℕ) → length r ≡ 64 → r ≡ take 32 r ++ take 32 (drop 32 r)
-halves r h = sym (take-append-drop 32 r) ∙ ap (λ (x : List ℕ). take 32 r ++ x) (sym (take-all 32 (drop 32 r) (omega (arith, length-drop 32 r))))
-
--- the numbers one by one
-pub kept-is : (kept : List ℕ) → length kept ≡ 67 → kept ≡ queueNumbers (queueOf kept)
-kept-is [] h = absurd (omega arith)
-kept-is (a ∷ []) h = absurd (omega arith)
-kept-is (a ∷ b ∷ []) h = absurd (omega arith)
-kept-is (a ∷ b ∷ c ∷ r) h = ap (λ (x : List ℕ). a ∷ b ∷ c ∷ x) (halves r (omega arith))
+-- and all 70
+pub kept-is : (kept : List ℕ) → length kept ≡ 70 → kept ≡ queueNumbers (queueOf kept)
+kept-is kept h = sym (take-append-drop 67 kept) ∙ ap (λ (x : List ℕ). x ++ drop 67 kept) (first-67 kept h)
 
 -- put over as many, they are all there is
 pub all-put : (values kept : List ℕ) → length kept ≤ length values → put values kept ≡ values
 unfolding put
 all-put values kept h = ap (λ (x : List ℕ). values ++ x) (drop-of-length-le kept {i = length values} h) ∙ append-nil values
 
-module _ (kept : List ℕ) (h : length kept ≡ 67) where
+module _ (kept : List ℕ) (h : length kept ≡ 70) where
   pub lengths-32 : length (queueOf kept .lengths) ≡ 32
   lengths-32 = length-take-le 32 (drop 3 kept) (omega (arith, length-drop 3 kept))
 
   pub clocks-32 : length (queueOf kept .clocks) ≡ 32
   clocks-32 = length-take-le 32 (drop 35 kept) (omega (arith, length-drop 35 kept))
 
-  -- the count and a slot stored
-  pub slot-stored : (x y z p : ℕ) → p < 32
-      → set (set (set kept 2 x) (3 + p) y) (35 + p) z
-      ≡ getD kept 0 0 ∷ getD kept 1 0 ∷ x ∷ (set (take 32 (drop 3 kept)) p y ++ set (take 32 (drop 35 kept)) p z)
-  slot-stored x y z p l =
-      let k₁ : List ℕ = set kept 2 x in
-      let k₂ : List ℕ = set k₁ (3 + p) y in
-      let k₃ : List ℕ = set k₂ (35 + p) z in
-      let l₁ : length k₁ ≡ 67 = length-set kept 2 x ∙ h in
-      let l₂ : length k₂ ≡ 67 = length-set k₁ (3 + p) y ∙ l₁ in
-      let l₃ : length k₃ ≡ 67 = length-set k₂ (35 + p) z ∙ l₂ in
-      let at-0 : getD k₃ 0 0 ≡ getD kept 0 0 =
-      getD-set-other k₂ (35 + p) 0 z 0 (λ e. omega arith) ∙ getD-set-other k₁ (3 + p) 0 y 0 (λ e. omega arith) ∙ getD-set-other kept 2 0 x 0 (λ e. omega arith) in
-      let at-1 : getD k₃ 1 0 ≡ getD kept 1 0 =
-      getD-set-other k₂ (35 + p) 1 z 0 (λ e. omega arith) ∙ getD-set-other k₁ (3 + p) 1 y 0 (λ e. omega arith) ∙ getD-set-other kept 2 1 x 0 (λ e. omega arith) in
-      let at-2 : getD k₃ 2 0 ≡ x =
-      getD-set-other k₂ (35 + p) 2 z 0 (λ e. omega arith) ∙ getD-set-other k₁ (3 + p) 2 y 0 (λ e. omega arith) ∙ getD-set-same kept 2 x 0 (omega arith) in
-      let d₂ : drop 3 k₂ ≡ set (drop 3 kept) p y = drop-set-add 3 k₁ p y ∙ ap (λ (r : List ℕ). set r p y) (drop-set-lt 3 kept 2 x (omega arith)) in
-      let d₃ : drop 3 k₃ ≡ set (drop 3 k₂) (32 + p) z = ap (λ (i : ℕ). drop 3 (set k₂ i z)) (omega arith) ∙ drop-set-add 3 k₂ (32 + p) z in
-      let ls : take 32 (drop 3 k₃) ≡ set (take 32 (drop 3 kept)) p y =
-      ap (take 32) d₃ ∙ take-set-le 32 (drop 3 k₂) (32 + p) z (omega arith) ∙ ap (take 32) d₂ ∙ take-set-lt 32 (drop 3 kept) p y l in
-      let cs : take 32 (drop 35 k₃) ≡ set (take 32 (drop 35 kept)) p z =
-      ap (take 32) (drop-set-add 35 k₂ p z ∙ ap (λ (r : List ℕ). set r p z) (drop-set-lt 35 k₁ (3 + p) y (omega arith) ∙ drop-set-lt 35 kept 2 x (omega arith))) ∙ take-set-lt 32 (drop 35 kept) p z l in
-      kept-is k₃ l₃ ∙ ap₂ (λ (a b : ℕ). a ∷ b ∷ getD k₃ 2 0 ∷ (take 32 (drop 3 k₃) ++ take 32 (drop 35 k₃))) at-0 at-1
-      ∙ ap (λ (c : ℕ). getD kept 0 0 ∷ getD kept 1 0 ∷ c ∷ (take 32 (drop 3 k₃) ++ take 32 (drop 35 k₃))) at-2
-      ∙ ap₂ (λ (a b : List ℕ). getD kept 0 0 ∷ getD kept 1 0 ∷ x ∷ (a ++ b)) ls cs
+  pub totals-3 : length (queueOf kept .totals) ≡ 3
+  totals-3 = length-drop 67 kept ∙ omega arith
 
--- the first place, the first slot and the count stored
-pub head-stored : (kept : List ℕ) → length kept ≡ 67 → (x y z : ℕ)
-    → set (set (set kept 0 x) 1 y) 2 z ≡ x ∷ y ∷ z ∷ (queueOf kept .lengths ++ queueOf kept .clocks)
-head-stored [] h x y z = absurd (omega arith)
-head-stored (a ∷ []) h x y z = absurd (omega arith)
-head-stored (a ∷ b ∷ []) h x y z = absurd (omega arith)
-head-stored (a ∷ b ∷ c ∷ r) h x y z = ap (λ (w : List ℕ). x ∷ y ∷ z ∷ w) (halves r (omega arith))
+  -- the totals as a part that is lent
+  pub totals-lent : take (length kept - 67) (drop 67 kept) ≡ queueOf kept .totals
+  totals-lent = take-all (length kept - 67) (drop 67 kept) (omega (arith, length-drop 67 kept))
+
+  pub part-3 : length (take (length kept - 67) (drop 67 kept)) ≡ 3
+  part-3 = ap length totals-lent ∙ totals-3
 
 -- a queue of numbers that fit
-pub fits : (kept : List ℕ) → keptRefusal kept ≡ 0 → (length kept ≡ 67) × Slots (queueOf kept .lengths)
+pub fits : (kept : List ℕ) → keptRefusal kept ≡ 0 → (length kept ≡ 70) × Slots (queueOf kept .lengths)
 unfolding keptRefusal
 fits kept z =
     let p = orElse-zero _ _ z in
-    let h : length kept ≡ 67 = sized 67 (length kept) refl (p .0) in
-    (h, record { all = lengths-32 kept h; octets = octets-all (queueOf kept .lengths) (refuse-zero _ 13 (p .1)) })
+    let h : length kept ≡ 70 = sized 70 (length kept) refl (p .0) in
+    (h, record { all = lengths-32 kept h; octets = λ i. omega (arith, none-above 255 (queueOf kept .lengths) (refuse-zero _ 13 (p .1)) i) })
 
--- all 67 cleared, one by one
-pub cleared : (k : List ℕ) (i : ℕ) → length k ≡ 67 → i < 67 → set (take i (replicate 67 0) ++ drop i k) i 0 ≡ take (i + 1) (replicate 67 0) ++ drop (i + 1) k
+-- all 70 cleared, one by one
+pub cleared : (k : List ℕ) (i : ℕ) → length k ≡ 70 → i < 70 → set (take i (replicate 70 0) ++ drop i k) i 0 ≡ take (i + 1) (replicate 70 0) ++ drop (i + 1) k
 cleared k i h l =
-    ap (set (take i (replicate 67 0) ++ drop i k) i) (sym (getD-replicate 67 i 0 0 l)) ∙ copied-more (replicate 67 0) k i l (omega arith)
+    ap (set (take i (replicate 70 0) ++ drop i k) i) (sym (getD-replicate 70 i 0 0 l)) ∙ copied-more (replicate 70 0) k i l (omega arith)
 
-pub all-cleared : (k x : List ℕ) (i : ℕ) → length k ≡ 67 → i ≡ 67 → x ≡ take i (replicate 67 0) ++ drop i k → x ≡ put (queueNumbers freshQueue) k
+pub all-cleared : (k x : List ℕ) (i : ℕ) → length k ≡ 70 → i ≡ 70 → x ≡ take i (replicate 70 0) ++ drop i k → x ≡ put (queueNumbers freshQueue) k
 unfolding put
-all-cleared k x i h e ex = ex ∙ ap (λ (n : ℕ). take n (replicate 67 0) ++ drop n k) e
+all-cleared k x i h e ex = ex ∙ ap (λ (n : ℕ). take n (replicate 70 0) ++ drop n k) e
+
+-- judged by the code
+pub kept-unsized : (kept : List ℕ) → (length kept ≡ 70 → ⊥) → 14 ≡ keptRefusal kept
+unfolding keptRefusal
+kept-unsized kept h = rw (ne-eqb (length kept) 70 h) refl
+
+pub kept-sized : (kept : List ℕ) (r e : ℕ) → length kept ≡ 70 → r ≡ refuse (not (eqb e 0)) 14 → e ≡ excess (queueOf kept .lengths) → r ≡ keptRefusal kept
+unfolding keptRefusal
+kept-sized kept r e h er ee =
+    rw (eq-eqb (length kept) 70 h) (er ∙ ap (λ (x : ℕ). refuse (not (eqb x 0)) 14) ee ∙ ap (λ (b : Bool). refuse b 14) (excess-test (queueOf kept .lengths)))
+
+-- a question of a queue of numbers
+module _ (kept : List ℕ) (level : ℕ) (answer : List ℕ) where
+  -- what the two clauses say of a number and the answer's slice
+  abbrev pub Frees : ℕ → List ℕ → Type 0
+  Frees r a = (r ≡ short 1 answer orElse keptFreed kept level .refusal) × (a ≡ written (short 1 answer) (keptFreed kept level .octets ∷ []) answer)
+
+  module _ (flat : ℕ) (ef : flat ≡ short 1 answer) (zf : flat ≡ 0) where
+    pub none-freed : (r : ℕ) → r ≡ keptRefusal kept → (r ≡ 0 → ⊥) → (a : List ℕ) → a ≡ put (0 ∷ []) answer → Frees r a
+    unfolding keptFreed
+    none-freed r e h a ea =
+        let k : record { refusal = r; octets = 0 } ≡ keptFreed kept level =
+        refused-is (keptRefusal kept) r (freedAnswer (queueOf kept) level) (record { refusal = keptRefusal kept; octets = 0 }) _ e h (ap (λ (n : ℕ). record { refusal = n; octets = 0 }) e) in
+        called (short 1 answer) flat (keptFreed kept level .refusal) (keptFreed kept level .octets ∷ []) answer ef zf r a
+        (ap (λ (x : GivenBack). x .refusal) k) ea (ap (λ (x : GivenBack). x .octets ∷ []) k)
+
+    pub freed-so : keptRefusal kept ≡ 0 → (given : GivenBack) → given ≡ freedAnswer (bare (getD kept 0 0) (getD kept 1 0) (getD kept 2 0) [] (drop 67 kept)) level
+        → (a : List ℕ) → a ≡ put (given .octets ∷ []) answer → Frees (given .refusal) a
+    unfolding keptFreed
+    freed-so z given e a ea =
+        let k : given ≡ keptFreed kept level =
+        done-is (keptRefusal kept) 0 _ _ given (sym z) refl (e ∙ freed-bare (queueOf kept) (queueOf kept .lengths) level refl (fits kept z .1) (queueOf kept .totals) refl) in
+        called (short 1 answer) flat (keptFreed kept level .refusal) (keptFreed kept level .octets ∷ []) answer ef zf (given .refusal) a
+        (ap (λ (x : GivenBack). x .refusal) k) ea (ap (λ (x : GivenBack). x .octets ∷ []) k)

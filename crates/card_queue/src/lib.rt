@@ -70,7 +70,8 @@ pub extern "C" fn pelgrant_queue_freed(kept: &[u32], level: u8, answer: &mut [u6
         return unfit;
     }
     let given = room::freed_by(kept[0], kept[1], kept[2], &kept[67..], level);
-    let numbers = [given.octets as u64];
+    let octets = given.octets as u64;
+    let numbers = [octets];
     put(&numbers, answer);
     given.refusal
 }

@@ -1,16 +1,17 @@
 -- The calls on a queue of numbers: one that is none, and what the call by the record's numbers makes of one that is.
-use Prim.Native.Nat.{ℕ, _+_}
-use mathlib.Core.Path.{_≡_, refl, sym, ap, _∙_}
-use mathlib.Core.Bool.{Bool, not}
-use mathlib.Core.List.{List, [], _∷_}
+use Prim.Native.Nat.{ℕ, _+_, _-_, _<_}
+use mathlib.Core.Path.{_≡_, refl, sym, ap, ap₂, _∙_}
+use mathlib.Core.List.{List, [], _∷_, _++_}
 use native.Mathlib.Omega.{arith}
-use lib.Dec.{eqb}
-use lib.ListN.{length, take, drop, getD, set, length-set}
-use borrow.Author.Tests.{eq-eqb, ne-eqb}
-use Rattle.refusals.specs.Refusals.{_orElse_, refuse, ifTaken}
+use lib.ListN.{length, take, drop, getD, set, length-append}
+use lib.Seq.{length-take-le}
+use borrow.Rule.Slice.PartMut.{midOf, putMid}
+use Rattle.refusals.specs.Refusals.{_orElse_, ifTaken}
 use Rattle.refusals.proofs.RefusalLaws.{orElse-take, if-taken, if-refused, by-taken}
+use Rattle.totals.specs.Totals.{raised, lowered}
+use Rattle.totals.specs.Parts.{droppable, Totalled}
 use Rattle.room.specs.Rules.{enterStore, takeBuffer}
-use Rattle.room.specs.Parts.{bare, spotBy, storeBy, stepOf}
+use Rattle.room.specs.Parts.{queueWith, bare, spotBy, storeBy, stepOf}
 use Rattle.room.specs.declared.Queue.{Queue}
 use Rattle.room.specs.declared.Spot.{Spot}
 use Rattle.room.specs.declared.Step.{Step}
@@ -18,33 +19,26 @@ use Rattle.room.proofs.TakeLaws.{after-refused}
 use Rattle.queue.specs.Calls.{enterAnswer, takeAnswer}
 use Rattle.queue.specs.declared.Entered.{Entered}
 use Rattle.queue.specs.declared.Taken.{Taken}
-use Rattle.queue.proofs.AnswerLaws.{Met, met, Slotted, slotted, entry-refused, entry-done, takenWith, taken-by}
+use Rattle.queue.proofs.AnswerLaws.{Met, met, Slotted, slotted, entry-refused, entry-done, takenWith, taken-blocks, taken-by}
 use Rattle.card.specs.Card.{put, written, short}
 use Rattle.card.proofs.CardLaws.{left-alone, filled}
-use Rattle.card_queue.specs.Queues.{queueOf, queueNumbers, keptRefusal, keptEnter, keptStore, keptTake, keptBuffer}
-use Rattle.card_queue.specs.Parts.{excess}
-use Rattle.card_queue.proofs.QueueLaws.{excess-test, kept-is, all-put, lengths-32, clocks-32, slot-stored, head-stored, fits}
-
-pub kept-unsized : (kept : List ℕ) → (length kept ≡ 67 → ⊥) → 14 ≡ keptRefusal kept
-unfolding keptRefusal
-kept-unsized kept h = rw (ne-eqb (length kept) 67 h) refl
-
-pub kept-sized : (kept : List ℕ) (r e : ℕ) → length kept ≡ 67 → r ≡ refuse (not (eqb e 0)) 14 → e ≡ excess (queueOf kept .lengths) → r ≡ keptRefusal kept
-unfolding keptRefusal
-kept-sized kept r e h er ee =
-    rw (eq-eqb (length kept) 67 h) (er ∙ ap (λ (x : ℕ). refuse (not (eqb x 0)) 14) ee ∙ ap (λ (b : Bool). refuse b 14) (excess-test (queueOf kept .lengths)))
-
-three-set : (k : List ℕ) (i j l x y z : ℕ) → length (set (set (set k i x) j y) l z) ≡ length k
-three-set k i j l x y z = simp length-set
+use Rattle.card_queue.specs.Queues.{queueOf, queueNumbers, keptRefusal}
+use Rattle.card_queue.proofs.QueueLaws.{kept-is, all-put, lengths-32, clocks-32, totals-3, totals-lent, part-3, fits}
+use Rattle.card_room.specs.Rooms.{keptEnter, keptStore, keptTake, keptBuffer}
+use Rattle.card_room.proofs.StoredLaws.{slot-size, slot-first, slot-behind, head-size, head-first, head-behind, lent-on, put-back}
 
 -- the numbers of a queue stored over those that came: where the call is refused it is the same queue
-stored-over : (kept : List ℕ) (n : ℕ) (p : Queue) (x : List ℕ) → length kept ≡ 67 → length x ≡ 67 → x ≡ queueNumbers p → ((n ≡ 0 → ⊥) → p ≡ queueOf kept)
+stored-over : (kept : List ℕ) (n : ℕ) (p : Queue) (x : List ℕ) → length kept ≡ 70 → length x ≡ 70 → x ≡ queueNumbers p → ((n ≡ 0 → ⊥) → p ≡ queueOf kept)
     → x ≡ written n (queueNumbers p) kept
 unfolding written
 stored-over kept n p x h hx e same =
     by-taken n
     (λ z. e ∙ sym (if-taken n (put (queueNumbers p) kept) kept z ∙ all-put (queueNumbers p) kept (omega (arith, ap length e))))
     (λ r. e ∙ ap queueNumbers (same r) ∙ sym (if-refused n (put (queueNumbers p) kept) kept r ∙ kept-is kept h))
+
+-- as long with totals moved on
+still-70 : (k us : List ℕ) → length k ≡ 70 → length us ≡ 3 → length (take 67 k ++ us) ≡ 70
+still-70 k us h e = length-append (take 67 k) us ∙ ap₂ _+_ (length-take-le 67 k (omega arith)) e
 
 module _ (s kept f : List ℕ) (clock : ℕ) where
   pub no-enter : (r : ℕ) → r ≡ keptRefusal kept → (r ≡ 0 → ⊥)
@@ -57,15 +51,17 @@ module _ (s kept f : List ℕ) (clock : ℕ) where
       (k, (sym (if-refused (keptRefusal kept) (enterStore s (queueOf kept) f) s n), left-alone _ r _ kept k h))
 
   module _ (z : keptRefusal kept ≡ 0) (spot : Spot) (t : List ℕ)
-      (es : spot ≡ spotBy (length s) (bare (getD kept 0 0) (getD kept 1 0) (getD kept 2 0) (take 32 (drop 3 kept))) f)
-      (et : t ≡ storeBy s (bare (getD kept 0 0) (getD kept 1 0) (getD kept 2 0) (take 32 (drop 3 kept))) f) where
-    enter-size : length kept ≡ 67
+      (es : spot ≡ spotBy (length s) (bare (getD kept 0 0) (getD kept 1 0) (getD kept 2 0) (take 32 (drop 3 kept)) (take (length kept - 67) (drop 67 kept))) f)
+      (et : t ≡ storeBy s (bare (getD kept 0 0) (getD kept 1 0) (getD kept 2 0) (take 32 (drop 3 kept)) (take (length kept - 67) (drop 67 kept))) f) where
+    enter-size : length kept ≡ 70
     enter-size = fits kept z .0
 
     m : Met s (queueOf kept) f spot t
-    m = met s (queueOf kept) f spot t (queueOf kept .lengths) (queueOf kept .clocks) refl (lengths-32 kept enter-size) refl (clocks-32 kept enter-size) es et
+    m =
+        met s (queueOf kept) f spot t (queueOf kept .lengths) (queueOf kept .clocks) _ refl (lengths-32 kept enter-size) refl (clocks-32 kept enter-size)
+        (totals-lent kept enter-size) (part-3 kept enter-size) es et
 
-    pub slot-for : spot .refusal ≡ 0 → Slotted (queueOf kept) f (spot .slot)
+    pub slot-for : spot .refusal ≡ 0 → Slotted (queueOf kept) f spot
     slot-for n = slotted s (queueOf kept) f clock spot t m n
 
     enter-called : keptEnter s kept f clock ≡ enterAnswer s (queueOf kept) f clock
@@ -84,25 +80,43 @@ module _ (s kept f : List ℕ) (clock : ℕ) where
         let k : spot .refusal ≡ keptEnter s kept f clock .refusal = ap (λ (x : Entered). x .refusal) (a .0 ∙ sym enter-called) in
         (k, (a .1 .0 ∙ sym store-called, left-alone _ (spot .refusal) _ kept k h))
 
-    pub enter-done : spot .refusal ≡ 0
-        → (0 ≡ keptEnter s kept f clock .refusal)
-        × ((t ≡ keptStore s kept f)
-        × (set (set (set kept 2 (getD kept 2 0 + 1)) (3 + spot .slot) (length f)) (35 + spot .slot) clock
-        ≡ written (keptEnter s kept f clock .refusal) (queueNumbers (keptEnter s kept f clock .after)) kept))
-    enter-done n =
-        let a = entry-done s (queueOf kept) f clock spot t m n in
-        let e = a .0 ∙ sym enter-called in
-        let k : 0 ≡ keptEnter s kept f clock .refusal = ap (λ (x : Entered). x .refusal) e in
-        let x : List ℕ = set (set (set kept 2 (getD kept 2 0 + 1)) (3 + spot .slot) (length f)) (35 + spot .slot) clock in
-        let lx : length x ≡ 67 = three-set kept 2 (3 + spot .slot) (35 + spot .slot) (getD kept 2 0 + 1) (length f) clock ∙ enter-size in (
-          k,
-          (
-            a .1 .0 ∙ sym store-called,
-            stored-over kept (keptEnter s kept f clock .refusal) (keptEnter s kept f clock .after) x enter-size lx
-                (slot-stored kept enter-size (getD kept 2 0 + 1) (length f) clock (spot .slot) (slot-for n .below) ∙ ap (λ (y : Entered). queueNumbers (y .after)) e)
-                (λ h. absurd (h (sym k))),
-          ),
-        )
+    -- the numbers stored before the totals
+    abbrev pub entered-kept : List ℕ
+    entered-kept = set (set (set kept 2 (getD kept 2 0 + 1)) (3 + spot .slot) (length f)) (35 + spot .slot) clock
+
+    module _ (n : spot .refusal ≡ 0) where
+      below : spot .slot < 32
+      below = slot-for n .below
+
+      pub entered-size : length entered-kept ≡ 70
+      entered-size = slot-size kept enter-size (getD kept 2 0 + 1) (length f) clock (spot .slot) below
+
+      -- the totals that are lent on
+      entered-totals : midOf 67 (length entered-kept - 67) entered-kept ≡ queueOf kept .totals
+      entered-totals = lent-on entered-kept entered-size ∙ slot-behind kept enter-size (getD kept 2 0 + 1) (length f) clock (spot .slot) below
+
+      pub raisable : Totalled (midOf 67 (length entered-kept - 67) entered-kept)
+      raisable = rw entered-totals (slot-for n .totals)
+
+      pub enter-done : (us : List ℕ) → length us ≡ length (midOf 67 (length entered-kept - 67) entered-kept) → ((g : List ℕ) → spot .blocks ≡ droppable g → us ≡ raised g (midOf 67 (length entered-kept - 67) entered-kept))
+          → (0 ≡ keptEnter s kept f clock .refusal)
+          × ((t ≡ keptStore s kept f)
+          × (putMid 67 (length entered-kept - 67) entered-kept us ≡ written (keptEnter s kept f clock .refusal) (queueNumbers (keptEnter s kept f clock .after)) kept))
+      enter-done us as-many raise =
+          let up : (g : List ℕ) → spot .blocks ≡ droppable g → us ≡ raised g (queueOf kept .totals) = λ g e. raise g e ∙ ap (raised g) entered-totals in
+          let a = entry-done s (queueOf kept) f clock spot t m n us up in
+          let e = a .0 ∙ sym enter-called in
+          let k : 0 ≡ keptEnter s kept f clock .refusal = ap (λ (x : Entered). x .refusal) e in
+          let made : take 67 entered-kept ++ us ≡ queueNumbers (keptEnter s kept f clock .after) =
+          ap (λ (x : List ℕ). x ++ us) (slot-first kept enter-size (getD kept 2 0 + 1) (length f) clock (spot .slot) below) ∙ ap (λ (y : Entered). queueNumbers (y .after)) e in (
+            k,
+            (
+              a .1 .0 ∙ sym store-called,
+              put-back entered-kept entered-size us
+                  ∙ stored-over kept (keptEnter s kept f clock .refusal) (keptEnter s kept f clock .after) (take 67 entered-kept ++ us) enter-size
+                  (still-70 entered-kept us entered-size (as-many ∙ ap length entered-totals ∙ totals-3 kept enter-size)) made (λ h. absurd (h (sym k))),
+            ),
+          )
 
 module _ (s kept : List ℕ) (to level addr : ℕ) (out answer : List ℕ) where
   -- what the four clauses say of a number, the answer's slice, the buffer and the queue
@@ -129,9 +143,9 @@ module _ (s kept : List ℕ) (to level addr : ℕ) (out answer : List ℕ) where
         r a out (e ∙ ap (λ (x : Taken). x .refusal) k) ea (ap (λ (x : Taken). x .length ∷ []) k) (sym (if-refused (keptRefusal kept) (takeBuffer s (queueOf kept) to level addr out) out n)) in
         (b .0, (b .1 .0, (b .1 .1, left-alone _ r _ kept (b .0) h)))
 
-    module _ (z : keptRefusal kept ≡ 0) (step : Step) (after : List ℕ)
-        (es : step ≡ stepOf s (queueOf kept) to level addr out) (eb : after ≡ takeBuffer s (queueOf kept) to level addr out) where
-      take-size : length kept ≡ 67
+    module _ (z : keptRefusal kept ≡ 0) (step : Step)
+        (es : step ≡ stepOf s (queueWith (getD kept 0 0) (getD kept 1 0) (getD kept 2 0) (take 32 (drop 3 kept)) (take 32 (drop 35 kept)) (take (length kept - 67) (drop 67 kept))) to level addr out) where
+      take-size : length kept ≡ 70
       take-size = fits kept z .0
 
       take-called : keptTake s kept to level addr out ≡ takeAnswer s (queueOf kept) to level addr out
@@ -142,10 +156,6 @@ module _ (s kept : List ℕ) (to level addr : ℕ) (out answer : List ℕ) where
       unfolding keptBuffer
       buffer-called = if-taken (keptRefusal kept) (takeBuffer s (queueOf kept) to level addr out) out z
 
-      answered-so : takenWith step (queueOf kept .lengths) (queueOf kept .clocks) ≡ keptTake s kept to level addr out
-      answered-so =
-          taken-by s (queueOf kept) to level addr out (queueOf kept .lengths) (queueOf kept .clocks) refl (lengths-32 kept take-size) refl (clocks-32 kept take-size) step es after eb .0 ∙ sym take-called
-
       -- refused, the record after it is the record that came
       same-queue : (keptTake s kept to level addr out .refusal ≡ 0 → ⊥) → keptTake s kept to level addr out .after ≡ queueOf kept
       unfolding takeAnswer
@@ -153,20 +163,46 @@ module _ (s kept : List ℕ) (to level addr : ℕ) (out answer : List ℕ) where
           ap (λ (x : Taken). x .after) take-called
           ∙ after-refused s (queueOf kept) (lengths-32 kept take-size) (clocks-32 kept take-size) to level addr out (λ n. h (ap (λ (x : Taken). x .refusal) take-called ∙ n))
 
-      pub take-done : (a : List ℕ) → a ≡ put (step .length ∷ []) answer → Takes (step .refusal) a after (set (set (set kept 0 (step .head)) 1 (step .first)) 2 (step .count))
-      take-done a ea =
+      -- the numbers stored before the totals
+      abbrev pub taken-kept : List ℕ
+      taken-kept = set (set (set kept 0 (step .head)) 1 (step .first)) 2 (step .count)
+
+      pub taken-size : length taken-kept ≡ 70
+      taken-size = head-size kept take-size (step .head) (step .first) (step .count)
+
+      taken-totals : midOf 67 (length taken-kept - 67) taken-kept ≡ queueOf kept .totals
+      taken-totals = lent-on taken-kept taken-size ∙ head-behind kept take-size (step .head) (step .first) (step .count)
+
+      pub lowerable : (length (midOf 67 (length taken-kept - 67) taken-kept) ≡ 3) × (step .blocks < 4)
+      lowerable = (
+        ap length taken-totals ∙ totals-3 kept take-size,
+        taken-blocks s (queueOf kept) to level addr out (queueOf kept .lengths) (queueOf kept .clocks) _ refl (lengths-32 kept take-size) refl (clocks-32 kept take-size) (totals-lent kept take-size) (part-3 kept take-size) step es,
+      )
+
+      pub take-done : (after : List ℕ)
+          → after ≡ takeBuffer s (queueWith (getD kept 0 0) (getD kept 1 0) (getD kept 2 0) (take 32 (drop 3 kept)) (take 32 (drop 35 kept)) (take (length kept - 67) (drop 67 kept))) to level addr out
+          → (us : List ℕ) → length us ≡ length (midOf 67 (length taken-kept - 67) taken-kept) → ((g : List ℕ) → step .blocks ≡ droppable g → us ≡ lowered g (midOf 67 (length taken-kept - 67) taken-kept))
+          → (a : List ℕ) → a ≡ put (step .length ∷ []) answer → Takes (step .refusal) a after (putMid 67 (length taken-kept - 67) taken-kept us)
+      take-done after eb us as-many lower a ea =
+          let down : (g : List ℕ) → step .blocks ≡ droppable g → us ≡ lowered g (take (length kept - 67) (drop 67 kept)) =
+          λ g e. lower g e ∙ ap (lowered g) (taken-totals ∙ sym (totals-lent kept take-size)) in
+          let t = taken-by s (queueOf kept) to level addr out (queueOf kept .lengths) (queueOf kept .clocks) _ refl (lengths-32 kept take-size) refl (clocks-32 kept take-size) (totals-lent kept take-size) (part-3 kept take-size) step es
+          after eb us down in
+          let so : takenWith step (queueOf kept .lengths) (queueOf kept .clocks) us ≡ keptTake s kept to level addr out = t .0 ∙ sym take-called in
           let b = filled (short 1 answer) flat (keptTake s kept to level addr out .refusal) (keptTake s kept to level addr out .length ∷ []) answer (keptBuffer s kept to level addr out) out ef zf
-          (step .refusal) a after (ap (λ (x : Taken). x .refusal) answered-so) ea (ap (λ (x : Taken). x .length ∷ []) answered-so) (eb ∙ sym buffer-called) in
-          let k : List ℕ = set (set (set kept 0 (step .head)) 1 (step .first)) 2 (step .count) in
-          let lk : length k ≡ 67 = three-set kept 0 1 2 (step .head) (step .first) (step .count) ∙ take-size in
-          let zs : short 1 answer ≡ 0 = sym ef ∙ zf in (
+          (step .refusal) a after (ap (λ (x : Taken). x .refusal) so) ea (ap (λ (x : Taken). x .length ∷ []) so) (t .1 .0 ∙ sym buffer-called) in
+          let zs : short 1 answer ≡ 0 = sym ef ∙ zf in
+          let made : take 67 taken-kept ++ us ≡ queueNumbers (keptTake s kept to level addr out .after) =
+          ap (λ (x : List ℕ). x ++ us) (head-first kept take-size (step .head) (step .first) (step .count)) ∙ ap (λ (x : Taken). queueNumbers (x .after)) so in
+          let three : length us ≡ 3 = as-many ∙ lowerable .0 in (
             b .0,
             (
               b .1 .0,
               (
                 b .1 .1,
-                stored-over kept (short 1 answer orElse keptTake s kept to level addr out .refusal) (keptTake s kept to level addr out .after) k take-size lk
-                    (head-stored kept take-size (step .head) (step .first) (step .count) ∙ ap (λ (x : Taken). queueNumbers (x .after)) answered-so)
+                put-back taken-kept taken-size us
+                    ∙ stored-over kept (short 1 answer orElse keptTake s kept to level addr out .refusal) (keptTake s kept to level addr out .after) (take 67 taken-kept ++ us) take-size
+                    (still-70 taken-kept us taken-size three) made
                     (λ h. same-queue (λ n. h (ap (λ (f : ℕ). f orElse keptTake s kept to level addr out .refusal) zs ∙ n))),
               ),
             ),

@@ -1,4 +1,4 @@
-use Rattle.card_queue.proofs.CallLaws.{kept-unsized, kept-sized}
+use Rattle.card_queue.proofs.QueueLaws.{kept-unsized, kept-sized}
 use borrow.Author.Needs.{needs}
 use Rattle.card_queue.proofs.kept_refusal.Statement.{statement}
 use Rattle.card_queue.proofs.kept_refusal.Tie as tie

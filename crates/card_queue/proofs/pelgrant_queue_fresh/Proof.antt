@@ -12,10 +12,10 @@ use Rattle.card_queue.proofs.pelgrant_queue_fresh.Statement.{statement}
 use Rattle.card_queue.proofs.pelgrant_queue_fresh.Tie as tie
 
 abbrev Inv-loop : tie.InvT-loop
-Inv-loop kept₀ size i₀ kept i = (i ≤ 67) × (length kept₀ ≡ 67) × (length kept ≡ 67) × (kept ≡ take i (replicate 67 0) ++ drop i kept₀)
+Inv-loop kept₀ size i₀ kept i = (i ≤ 70) × (length kept₀ ≡ 70) × (length kept ≡ 70) × (kept ≡ take i (replicate 70 0) ++ drop i kept₀)
 
 abbrev μ-loop : tie.MeasureT-loop
-μ-loop kept₀ size i₀ kept i = 67 - i
+μ-loop kept₀ size i₀ kept i = 70 - i
 
 refuse-requires : tie.Need-refuse-requires Inv-loop μ-loop
 refuse-requires c κs = tt
@@ -28,7 +28,7 @@ returns c =
 loop-holds : tie.Need-loop-holds Inv-loop μ-loop
 loop-holds c =
     let k = c .before .before .before .args .kept .now in
-    (omega arith, sized 67 (length k) (c .before .refuse .ensures) (c .if1 .left), sized 67 (length k) (c .before .refuse .ensures) (c .if1 .left), refl)
+    (omega arith, sized 70 (length k) (c .before .refuse .ensures) (c .if1 .left), sized 70 (length k) (c .before .refuse .ensures) (c .if1 .left), refl)
 
 mul-kept : tie.Need-mul-kept Inv-loop μ-loop
 mul-kept c = search needs

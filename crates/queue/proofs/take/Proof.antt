@@ -39,9 +39,10 @@ lower-requires c κs =
     let r = v .before .before .before .before .before .before .before .readings in
     let h = v .before .before .before .before .before .three in
     let a = start v .args in
-    let three : length (h .result) ≡ 3 = h .ensures .1 in
-    (three,
-    taken-blocks (a .store .now) (a .q) (a .to) (a .level) (a .address) (a .out .now) (w .result) (r .result) (h .result) (w .ensures .0) (w .ensures .1 .all) (r .ensures .0) (r .ensures .1) (h .ensures .0) (h .ensures .1) (v .take-by .result) (v .take-by .ensures .0))
+    let three : length (h .result) ≡ 3 = h .ensures .1 in (
+      three,
+      taken-blocks (a .store .now) (a .q) (a .to) (a .level) (a .address) (a .out .now) (w .result) (r .result) (h .result) (w .ensures .0) (w .ensures .1 .all) (r .ensures .0) (r .ensures .1) (h .ensures .0) (h .ensures .1) (v .take-by .result) (v .take-by .ensures .0),
+    )
 
 same-length : tie.Need-same-length
 same-length c = search needs
