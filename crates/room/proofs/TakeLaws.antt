@@ -20,9 +20,10 @@ use Rattle.totals.proofs.TotalsLaws.{droppable-few, lowered-none, none-overfull
 use Rattle.room.specs.Plain.{Kept, kept, firstOf, firstAnswer, firstBuffer, left}
 use Rattle.room.specs.Waiting.{cut, lengthsOf, clocksOf, waiting, outside, refusal14, Lets}
 use Rattle.room.specs.Rules.{noneToTake, takeSent, takeBuffer, withoutFirst, takeQueue}
-use Rattle.room.specs.Parts.{queueWith, bare, octetsFrom, sentOf, stepOf}
+use Rattle.room.specs.Parts.{queueWith, bare, octetsFrom, sentOf, stayed, stepOf}
 use Rattle.room.specs.declared.Queue.{Queue}
 use Rattle.room.specs.declared.Gone.{Gone}
+use Rattle.room.specs.declared.Step.{Step}
 use Rattle.room.proofs.CutLaws.{cut-more}
 use Rattle.room.proofs.InsideLaws.{Inside, inside, let-by, waiting-count}
 
@@ -171,21 +172,20 @@ module _ (s : List ℕ) (q : Queue) (ll : length (q .lengths) ≡ 32) (lc : leng
         }) (sym e)
 
     -- each way that the code goes
-    pub step-none : (r : ℕ) → r ≡ noneBy (length s) q → (r ≡ 0 → ⊥)
-        → (record { refusal = r; length = 0; head = q .head; first = q .first; count = q .count; blocks = 0 } ≡ stepOf s q to level addr out) × (out ≡ takeBuffer s q to level addr out)
-    step-none r e h =
+    pub step-none : (r : ℕ) → r ≡ noneBy (length s) q → (r ≡ 0 → ⊥) → (x : Step) → x ≡ stayed r 0 (q .head) (q .first) (q .count)
+        → (x ≡ stepOf s q to level addr out) × (out ≡ takeBuffer s q to level addr out)
+    step-none r e h x ex =
         let w = none-sent (λ z. h (e ∙ z)) in (
-          stepped (record { refusal = r; length = 0 }) q 0 (w .0 ∙ ap (λ (x : ℕ). record { refusal = x; length = 0 }) (sym e)) (if-refused r (withoutFirst s q) q h) (if-refused r _ 0 h),
+          ex ∙ stepped (record { refusal = r; length = 0 }) q 0 (w .0 ∙ ap (λ (x : ℕ). record { refusal = x; length = 0 }) (sym e)) (if-refused r (withoutFirst s q) q h) (if-refused r _ 0 h),
           sym (w .1),
         )
 
     module _ (gone : Gone) (after : List ℕ) (z : noneBy (length s) q ≡ 0)
         (went : Went level (waitOf (readingOf q) to) addr out (octetsFrom (q .head) (lengthOf q) s) gone after) where
-      pub step-refused : (gone .refusal ≡ 0 → ⊥)
-          → (record { refusal = gone .refusal; length = gone .length; head = q .head; first = q .first; count = q .count; blocks = 0 } ≡ stepOf s q to level addr out)
-          × (after ≡ takeBuffer s q to level addr out)
-      step-refused h = (
-        stepped (sentOf gone) q 0 (sent-is z .0 ∙ sym (went .0 .0)) (if-refused (gone .refusal) (withoutFirst s q) q h) (if-refused (gone .refusal) _ 0 h),
+      pub step-refused : (gone .refusal ≡ 0 → ⊥) → (x : Step) → x ≡ stayed (gone .refusal) (gone .length) (q .head) (q .first) (q .count)
+          → (x ≡ stepOf s q to level addr out) × (after ≡ takeBuffer s q to level addr out)
+      step-refused h x ex = (
+        ex ∙ stepped (sentOf gone) q 0 (sent-is z .0 ∙ sym (went .0 .0)) (if-refused (gone .refusal) (withoutFirst s q) q h) (if-refused (gone .refusal) _ 0 h),
         went .1 ∙ sym (sent-is z .1),
       )
 

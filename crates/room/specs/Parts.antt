@@ -52,6 +52,10 @@ octetsFrom at n s = take n (turned at s)
 abbrev pub sentOf : Gone → Sent
 sentOf gone = record { refusal = gone .refusal; length = gone .length }
 
+-- nothing is taken
+abbrev pub stayed : ℕ → ℕ → ℕ → ℕ → ℕ → Step
+stayed refusal length head first count = record { refusal = refusal; length = length; head = head; first = first; count = count; blocks = 0 }
+
 -- what taking changes
 unfoldable pub stepOf : List ℕ → Queue → ℕ → ℕ → ℕ → List ℕ → Step
 stepOf s q to level addr out = record {

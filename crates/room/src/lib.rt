@@ -10,7 +10,7 @@ ghost use Rattle.ring.specs.Parts.{Slots};
 ghost use Rattle.totals.specs.Parts.{droppable};
 ghost use Rattle.room.specs.Waiting.{misplaced, overfull};
 ghost use Rattle.room.specs.Rules.{takeBuffer, freedAnswer};
-ghost use Rattle.room.specs.Parts.{queueWith, bare, Judged, spotBy, storeBy, octetsFrom, sentOf, stepOf};
+ghost use Rattle.room.specs.Parts.{queueWith, bare, Judged, spotBy, storeBy, octetsFrom, sentOf, stayed, stepOf};
 use refusals::or_else;
 use refusals::refuse;
 use ring::place_after;
@@ -167,6 +167,21 @@ pub struct Step {
     pub blocks: usize,
 }
 
+// What a take that is refused answers: the record's numbers as they came, and no block out of the totals.
+fn stays(refusal: u8, length: usize, head: u32, first: u32, count: u32) -> Step
+    ensures { λ r. ⌜ r ≡ stayed refusal length head first count ⌝ }
+{
+    let blocks: usize = 0;
+    Step {
+        refusal,
+        length,
+        head,
+        first,
+        count,
+        blocks,
+    }
+}
+
 // Taking by the record's numbers. `queue::take` and the exported form have 32 lengths, each an octet, 32 readings and three totals.
 pub fn take_by(
     store: &[u8],
@@ -189,14 +204,7 @@ pub fn take_by(
     let held = judge(n, head, first, count, lengths, totals);
     let refusal = or_else(held.refusal, refuse(count == 0, 26));
     if refusal != 0 {
-        return Step {
-            refusal,
-            length: 0,
-            head,
-            first,
-            count,
-            blocks: 0,
-        };
+        return stays(refusal, 0, head, first, count);
     }
     let slot = first as usize;
     let length = lengths[slot];
@@ -211,14 +219,7 @@ pub fn take_by(
         out,
     );
     if gone.refusal != 0 {
-        return Step {
-            refusal: gone.refusal,
-            length: gone.length,
-            head,
-            first,
-            count,
-            blocks: 0,
-        };
+        return stays(gone.refusal, gone.length, head, first, count);
     }
     let others = count - 1;
     Step {

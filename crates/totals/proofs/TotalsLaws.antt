@@ -1,5 +1,5 @@
 -- What a level gives back of a frame, and the totals one by one.
-use Prim.Native.Nat.{ℕ, zero, suc, _+_, _-_, _*_, _≤_, _<_, min}
+use Prim.Native.Nat.{ℕ, zero, suc, _+_, _-_, _*_, _%_, _^_, _≤_, _<_, min}
 use mathlib.Core.Path.{_≡_, refl, sym, ap, ap₂, _∙_}
 use mathlib.Core.Bool.{Bool, true, false, _||_, cond}
 use mathlib.Core.List.{List, [], _∷_}
@@ -134,3 +134,13 @@ none-overfull g le = above-none 1536 (levels g) (λ i. totals-at-most g (λ _. 1
 pub total-most : (n : ℕ) (ts : List ℕ) → anyAbove n ts ≡ false → (level : ℕ) → total ts level ≤ n
 total-most n ts h zero = omega arith
 total-most n ts h (suc level) = none-above n ts h level
+
+-- the octets that the code works out, and a total that stops at 0
+pub given-by : (blocks level n : ℕ) → n ≡ min blocks level → blocks < 4 → (16 * n ≡ 16 * min blocks level) × (16 * n ≤ 48)
+given-by blocks level n e few = (ap (λ (k : ℕ). 16 * k) e, omega arith)
+
+pub stops : (total octets : ℕ) → total < octets → 0 ≡ total - octets
+stops total octets less = omega arith
+
+pub falls : (total octets left : ℕ) → (left + octets) % 2 ^ 32 ≡ total → octets ≤ total → left < 2 ^ 32 → left ≡ total - octets
+falls total octets left e enough fits = omega arith

@@ -37,11 +37,15 @@ refuse-requires c κs = tt
 or-else-requires : tie.Need-or-else-requires
 or-else-requires c κs = tt
 
+stays-requires : tie.Need-stays-requires
+stays-requires c κs = tt
+
 returns : tie.Need-returns
 returns c =
-    let s = start (c .before) in
+    let o = c .before .before in
+    let s = start o in
     let a = s .args in
-    step-none (a .store .now) (asked s) (s .pre .0 .all) (s .pre .1) (a .to) (a .level) (a .address) (a .out .now) (c .before .or-else .result) (number (c .before)) (c .if1 .taken)
+    step-none (a .store .now) (asked s) (s .pre .0 .all) (s .pre .1) (a .to) (a .level) (a .address) (a .out .now) (o .or-else .result) (number o) (c .before .if1 .taken) (c .stays .result) (c .stays .ensures)
 
 mul-length : tie.Need-mul-length
 mul-length c = search needs
@@ -68,13 +72,16 @@ send-on-requires c κs =
 same-length : tie.Need-same-length
 same-length c = search needs
 
+stays-requires-2 : tie.Need-stays-requires-2
+stays-requires-2 c κs = tt
+
 returns-2 : tie.Need-returns-2
 returns-2 c =
-    let v = c .before .before .before .before in
+    let v = c .before .before .before .before .before in
     let d = v .before .before .before .before in
     let s = start (d .before) in
     let a = s .args in
-    step-refused (a .store .now) (asked s) (s .pre .0 .all) (s .pre .1) (a .to) (a .level) (a .address) (a .out .now) (v .send-on .result) _ (none d) (v .send-on .ensures) (c .if2 .taken)
+    step-refused (a .store .now) (asked s) (s .pre .0 .all) (s .pre .1) (a .to) (a .level) (a .address) (a .out .now) (v .send-on .result) _ (none d) (v .send-on .ensures) (c .before .if2 .taken) (c .stays2 .result) (c .stays2 .ensures)
 
 sub-others : tie.Need-sub-others
 sub-others c = let w = waits (c .before .before .before .before .before .before .before .before) in omega (arith, w .1)
@@ -111,6 +118,7 @@ take-by-spec =
     judge-requires
     refuse-requires
     or-else-requires
+    stays-requires
     returns
     mul-length
     shared-slice-read-length
@@ -118,6 +126,7 @@ take-by-spec =
     mul-send-on
     shared-slice-read-send-on
     send-on-requires
+    stays-requires-2
     same-length
     returns-2
     sub-others
