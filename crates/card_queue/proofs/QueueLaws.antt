@@ -1,5 +1,5 @@
 -- The 70 numbers of a queue: which fit, and where each stands.
-use Prim.Native.Nat.{ℕ, suc, _+_, _-_, _/_, _≤_, _<_}
+use Prim.Native.Nat.{ℕ, zero, suc, _+_, _-_, _/_, _≤_, _<_}
 use mathlib.Core.Path.{_≡_, refl, sym, ap, _∙_}
 use mathlib.Core.Bool.{Bool, true, false, not, _||_}
 use mathlib.Core.List.{List, [], _∷_, _++_, append-nil}
@@ -9,8 +9,8 @@ use lib.ListN.{length, take, drop, getD, set, length-drop, take-append-drop, dro
 use lib.Seq.{take-suc, take-add, take-all, length-take-le}
 use borrow.Author.Tests.{ltb-true, ltb-false, eq-eqb, ne-eqb}
 use Rattle.octets.proofs.PartLaws.{copied-more}
-use Rattle.refusals.specs.Refusals.{_orElse_, refuse}
-use Rattle.refusals.proofs.RefusalLaws.{orElse-zero, refuse-zero, refused-is, done-is}
+use Rattle.refusals.specs.Refusals.{_orElse_, refuse, ifTaken}
+use Rattle.refusals.proofs.RefusalLaws.{orElse-zero, orElse-take, orElse-pass, refuse-zero, refused-is, done-is, if-taken, if-refused, by-taken}
 use Rattle.ring.specs.Parts.{Slots}
 use Rattle.totals.specs.Totals.{anyAbove}
 use Rattle.totals.proofs.TotalsLaws.{none-above}
@@ -20,7 +20,7 @@ use Rattle.room.specs.declared.GivenBack.{GivenBack}
 use Rattle.room.proofs.FreedLaws.{freed-bare}
 use Rattle.queue.specs.Calls.{freshQueue}
 use Rattle.card.specs.Card.{put, short, written}
-use Rattle.card.proofs.CardLaws.{sized, called}
+use Rattle.card.proofs.CardLaws.{roomy, sized, stored, left-alone, answered, not-called, called}
 use Rattle.card_queue.specs.Queues.{queueOf, queueNumbers, keptRefusal, keptFreed}
 use Rattle.card_queue.specs.Parts.{excess}
 
@@ -32,6 +32,10 @@ excess-append (x ∷ xs) ys = omega (arith, excess-append xs ys)
 pub excess-more : (xs : List ℕ) (i : ℕ) → i < length xs → excess (take i xs) + getD xs i 0 / 256 ≡ excess (take (suc i) xs)
 unfolding excess
 excess-more xs i h = rw (take-suc xs i 0 h, excess-append (take i xs) (getD xs i 0 ∷ [])) (omega arith)
+
+none-after : (n : ℕ) → n orElse 0 ≡ n
+none-after zero = refl
+none-after (suc n) = refl
 
 -- no number passes an octet exactly where the excess is 0
 one-test : (x e : ℕ) (b : Bool) → not (eqb e 0) ≡ b → not (eqb (x / 256 + e) 0) ≡ (ltb 255 x || b)
@@ -111,26 +115,68 @@ unfolding keptRefusal
 kept-sized kept r e h er ee =
     rw (eq-eqb (length kept) 70 h) (er ∙ ap (λ (x : ℕ). refuse (not (eqb x 0)) 14) ee ∙ ap (λ (b : Bool). refuse b 14) (excess-test (queueOf kept .lengths)))
 
+-- ---- what only this form can get wrong of a call that answers one number
+
+module _ (kept answer : List ℕ) where
+  -- the number, and what is left of the answer's slice
+  abbrev pub Flat : ℕ → List ℕ → Type 0
+  Flat r a = (r ≡ short 1 answer orElse keptRefusal kept) × (a ≡ ifTaken (keptRefusal kept) answer (written (short 1 answer) (0 ∷ []) answer))
+
+  pub flat-short : (r : ℕ) → r ≡ short 1 answer → (r ≡ 0 → ⊥) → Flat r answer
+  flat-short r e h = (
+    orElse-take (short 1 answer) (keptRefusal kept) r e h,
+    by-taken (keptRefusal kept) (λ z. sym (if-taken (keptRefusal kept) answer _ z)) (λ k. refused-is (keptRefusal kept) (keptRefusal kept) answer _ answer refl k (left-alone _ r _ answer e h)),
+  )
+
+  module _ (slots u : ℕ) (es : slots ≡ short 1 answer) (zs : slots ≡ 0) (eu : u ≡ keptRefusal kept) where
+    number : u ≡ short 1 answer orElse keptRefusal kept
+    number = orElse-pass (short 1 answer) (keptRefusal kept) slots u es zs eu
+
+    pub flat-unfit : (u ≡ 0 → ⊥) → Flat u (set answer 0 0)
+    flat-unfit h = (number, refused-is (keptRefusal kept) u answer _ (set answer 0 0) eu h (answered _ slots (0 ∷ []) answer es zs (set answer 0 0) (stored 0 answer (roomy es zs))))
+
+    pub flat-fits : u ≡ 0 → Flat u answer
+    flat-fits z = (number, done-is (keptRefusal kept) u answer _ answer eu z refl)
+
+  module _ (r : ℕ) (a : List ℕ) (f : Flat r a) where
+    -- the call goes no further: its own number and answer are those of a queue that is none
+    pub flat-stops : (r ≡ 0 → ⊥) → (number value : ℕ) → ((keptRefusal kept ≡ 0 → ⊥) → (number ≡ keptRefusal kept) × (value ≡ 0))
+        → (r ≡ short 1 answer orElse number) × (a ≡ written (short 1 answer) (value ∷ []) answer)
+    flat-stops h number value unfit =
+        by-taken (keptRefusal kept)
+        (λ z. let s : r ≡ short 1 answer = f .0 ∙ ap (λ (k : ℕ). short 1 answer orElse k) z ∙ none-after (short 1 answer) in
+        let c = not-called (short 1 answer) r number (value ∷ []) answer s h in (c .0, f .1 ∙ if-taken (keptRefusal kept) answer _ z ∙ c .1))
+        (λ k. (
+          f .0 ∙ ap (λ (n : ℕ). short 1 answer orElse n) (sym (unfit k .0)),
+          f .1 ∙ if-refused (keptRefusal kept) answer _ k ∙ ap (λ (n : ℕ). written (short 1 answer) (n ∷ []) answer) (sym (unfit k .1)),
+        ))
+
+    -- nothing is wrong with the form
+    pub flat-goes : r ≡ 0 → (short 1 answer ≡ 0) × ((keptRefusal kept ≡ 0) × (a ≡ answer))
+    flat-goes z =
+        let p = orElse-zero (short 1 answer) (keptRefusal kept) (sym (f .0) ∙ z) in
+        (p .0, (p .1, f .1 ∙ if-taken (keptRefusal kept) answer _ (p .1)))
+
+    pub flat-room : r ≡ 0 → 1 ≤ length a
+    flat-room z = let g = flat-goes z in rw (g .1 .1) (roomy {r = short 1 answer} refl (g .0))
+
+    pub flat-done : r ≡ 0 → (number value k n : ℕ) → k ≡ number → n ≡ value → (k ≡ short 1 answer orElse number) × (set a 0 n ≡ written (short 1 answer) (value ∷ []) answer)
+    flat-done z number value k n ek en =
+        let g = flat-goes z in
+        called (short 1 answer) (short 1 answer) number (value ∷ []) answer refl (g .0) k (set a 0 n) ek
+        (ap (λ (x : List ℕ). set x 0 n) (g .1 .1) ∙ stored n answer (roomy {r = short 1 answer} refl (g .0))) (ap (λ (x : ℕ). x ∷ []) en)
+
 -- a question of a queue of numbers
-module _ (kept : List ℕ) (level : ℕ) (answer : List ℕ) where
-  -- what the two clauses say of a number and the answer's slice
-  abbrev pub Frees : ℕ → List ℕ → Type 0
-  Frees r a = (r ≡ short 1 answer orElse keptFreed kept level .refusal) × (a ≡ written (short 1 answer) (keptFreed kept level .octets ∷ []) answer)
+module _ (kept : List ℕ) (level : ℕ) where
+  pub freed-unfit : (keptRefusal kept ≡ 0 → ⊥) → (keptFreed kept level .refusal ≡ keptRefusal kept) × (keptFreed kept level .octets ≡ 0)
+  unfolding keptFreed
+  freed-unfit h =
+      let e = if-refused (keptRefusal kept) (freedAnswer (queueOf kept) level) (record { refusal = keptRefusal kept; octets = 0 }) h in
+      (ap (λ (x : GivenBack). x .refusal) e, ap (λ (x : GivenBack). x .octets) e)
 
-  module _ (flat : ℕ) (ef : flat ≡ short 1 answer) (zf : flat ≡ 0) where
-    pub none-freed : (r : ℕ) → r ≡ keptRefusal kept → (r ≡ 0 → ⊥) → (a : List ℕ) → a ≡ put (0 ∷ []) answer → Frees r a
-    unfolding keptFreed
-    none-freed r e h a ea =
-        let k : record { refusal = r; octets = 0 } ≡ keptFreed kept level =
-        refused-is (keptRefusal kept) r (freedAnswer (queueOf kept) level) (record { refusal = keptRefusal kept; octets = 0 }) _ e h (ap (λ (n : ℕ). record { refusal = n; octets = 0 }) e) in
-        called (short 1 answer) flat (keptFreed kept level .refusal) (keptFreed kept level .octets ∷ []) answer ef zf r a
-        (ap (λ (x : GivenBack). x .refusal) k) ea (ap (λ (x : GivenBack). x .octets ∷ []) k)
-
-    pub freed-so : keptRefusal kept ≡ 0 → (given : GivenBack) → given ≡ freedAnswer (bare (getD kept 0 0) (getD kept 1 0) (getD kept 2 0) [] (drop 67 kept)) level
-        → (a : List ℕ) → a ≡ put (given .octets ∷ []) answer → Frees (given .refusal) a
-    unfolding keptFreed
-    freed-so z given e a ea =
-        let k : given ≡ keptFreed kept level =
-        done-is (keptRefusal kept) 0 _ _ given (sym z) refl (e ∙ freed-bare (queueOf kept) (queueOf kept .lengths) level refl (fits kept z .1) (queueOf kept .totals) refl) in
-        called (short 1 answer) flat (keptFreed kept level .refusal) (keptFreed kept level .octets ∷ []) answer ef zf (given .refusal) a
-        (ap (λ (x : GivenBack). x .refusal) k) ea (ap (λ (x : GivenBack). x .octets ∷ []) k)
+  pub freed-so : keptRefusal kept ≡ 0 → (given : GivenBack) → given ≡ freedAnswer (bare (getD kept 0 0) (getD kept 1 0) (getD kept 2 0) [] (take (length kept - 67) (drop 67 kept))) level
+      → given ≡ keptFreed kept level
+  unfolding keptFreed
+  freed-so z given e =
+      done-is (keptRefusal kept) 0 _ _ given (sym z) refl
+      (e ∙ freed-bare (queueOf kept) (queueOf kept .lengths) level refl (fits kept z .1) _ (totals-lent kept (fits kept z .0)))

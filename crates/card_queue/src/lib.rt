@@ -2,12 +2,11 @@
 ghost use mathlib.Core.Path.{_≡_};
 ghost use mathlib.Core.List.{[], _∷_};
 ghost use lib.ListN.{length};
-ghost use Rattle.refusals.specs.Refusals.{_orElse_};
+ghost use Rattle.refusals.specs.Refusals.{_orElse_, ifTaken};
 ghost use Rattle.queue.specs.Calls.{freshQueue};
 ghost use Rattle.card.specs.Card.{short, written};
 ghost use Rattle.card_queue.specs.Queues.{queueNumbers, sizeRefusal, keptRefusal, keptFreed};
 ghost use Rattle.card_queue.specs.Parts.{excess};
-use card::put;
 use refusals::refusal_16;
 use refusals::refuse;
 
@@ -53,25 +52,33 @@ pub fn kept_refusal(kept: &[u32]) -> u8
     refuse(excess_of(&kept[3..35]) != 0, 14)
 }
 
+// What only this form can get wrong of a call that answers one number: 16, and then nothing is touched; 14, with a zero for the answer.
+pub fn flat_refusal(kept: &[u32], answer: &mut [u64]) -> u8
+    ensures number { λ r. ⌜ r ≡ short 1 (now (answer .entry)) orElse keptRefusal (now (kept .entry)) ⌝ }
+    ensures answer { λ _. ⌜ now (answer .exit) ≡ ifTaken (keptRefusal (now (kept .entry))) (now (answer .entry)) (written (short 1 (now (answer .entry))) (0 ∷ []) (now (answer .entry))) ⌝ }
+{
+    let slots = refusal_16(answer.len(), 1);
+    if slots != 0 {
+        return slots;
+    }
+    let unfit = kept_refusal(kept);
+    if unfit != 0 {
+        answer[0] = 0;
+    }
+    unfit
+}
+
 // What a level would give back.
 #[no_mangle]
 pub extern "C" fn pelgrant_queue_freed(kept: &[u32], level: u8, answer: &mut [u64]) -> u8
     ensures number { λ r. ⌜ r ≡ short 1 (now (answer .entry)) orElse keptFreed (now (kept .entry)) level .refusal ⌝ }
     ensures answer { λ _. ⌜ now (answer .exit) ≡ written (short 1 (now (answer .entry))) (keptFreed (now (kept .entry)) level .octets ∷ []) (now (answer .entry)) ⌝ }
 {
-    let flat = refusal_16(answer.len(), 1);
+    let flat = flat_refusal(kept, answer);
     if flat != 0 {
         return flat;
     }
-    let unfit = kept_refusal(kept);
-    if unfit != 0 {
-        let none = [0u64; 1];
-        put(&none, answer);
-        return unfit;
-    }
     let given = room::freed_by(kept[0], kept[1], kept[2], &kept[67..], level);
-    let octets = given.octets as u64;
-    let numbers = [octets];
-    put(&numbers, answer);
+    answer[0] = given.octets as u64;
     given.refusal
 }

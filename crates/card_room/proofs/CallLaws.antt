@@ -7,7 +7,7 @@ use lib.ListN.{length, take, drop, getD, set, length-append}
 use lib.Seq.{length-take-le}
 use borrow.Rule.Slice.PartMut.{midOf, putMid}
 use Rattle.refusals.specs.Refusals.{_orElse_, ifTaken}
-use Rattle.refusals.proofs.RefusalLaws.{orElse-take, if-taken, if-refused, by-taken}
+use Rattle.refusals.proofs.RefusalLaws.{if-taken, if-refused, by-taken}
 use Rattle.totals.specs.Totals.{raised, lowered}
 use Rattle.totals.specs.Parts.{droppable, Totalled}
 use Rattle.room.specs.Rules.{enterStore, takeBuffer}
@@ -21,9 +21,9 @@ use Rattle.queue.specs.declared.Entered.{Entered}
 use Rattle.queue.specs.declared.Taken.{Taken}
 use Rattle.queue.proofs.AnswerLaws.{Met, met, Slotted, slotted, entry-refused, entry-done, takenWith, taken-blocks, taken-by}
 use Rattle.card.specs.Card.{put, written, short}
-use Rattle.card.proofs.CardLaws.{left-alone, filled}
+use Rattle.card.proofs.CardLaws.{left-alone}
 use Rattle.card_queue.specs.Queues.{queueOf, queueNumbers, keptRefusal}
-use Rattle.card_queue.proofs.QueueLaws.{kept-is, all-put, lengths-32, clocks-32, totals-3, totals-lent, part-3, fits}
+use Rattle.card_queue.proofs.QueueLaws.{kept-is, all-put, lengths-32, clocks-32, totals-3, totals-lent, part-3, fits, Flat, flat-stops, flat-goes, flat-done}
 use Rattle.card_room.specs.Rooms.{keptEnter, keptStore, keptTake, keptBuffer}
 use Rattle.card_room.proofs.StoredLaws.{slot-size, slot-first, slot-behind, head-size, head-first, head-behind, lent-on, put-back}
 
@@ -127,34 +127,44 @@ module _ (s kept : List ℕ) (to level addr : ℕ) (out answer : List ℕ) where
       × ((o ≡ ifTaken (short 1 answer) (keptBuffer s kept to level addr out) out)
       × (k ≡ written (short 1 answer orElse keptTake s kept to level addr out .refusal) (queueNumbers (keptTake s kept to level addr out .after)) kept)))
 
-  pub no-answer : (r : ℕ) → r ≡ short 1 answer → (r ≡ 0 → ⊥) → Takes r answer out kept
-  no-answer r e h =
-      let n : r ≡ short 1 answer orElse keptTake s kept to level addr out .refusal = orElse-take (short 1 answer) _ r e h in
-      (n, (left-alone _ r _ answer e h, (sym (if-refused (short 1 answer) _ out (λ z. h (e ∙ z))), left-alone _ r _ kept n h)))
+  -- a queue that is none
+  take-unfit : (keptRefusal kept ≡ 0 → ⊥)
+      → (keptTake s kept to level addr out ≡ record { refusal = keptRefusal kept; length = 0; after = queueOf kept }) × (keptBuffer s kept to level addr out ≡ out)
+  unfolding keptTake keptBuffer
+  take-unfit h = (
+    if-refused (keptRefusal kept) (takeAnswer s (queueOf kept) to level addr out) (record { refusal = keptRefusal kept; length = 0; after = queueOf kept }) h,
+    if-refused (keptRefusal kept) (takeBuffer s (queueOf kept) to level addr out) out h,
+  )
 
-  module _ (flat : ℕ) (ef : flat ≡ short 1 answer) (zf : flat ≡ 0) where
-    pub no-take : (r : ℕ) → r ≡ keptRefusal kept → (r ≡ 0 → ⊥) → (a : List ℕ) → a ≡ put (0 ∷ []) answer → Takes r a out kept
-    unfolding keptTake keptBuffer
-    no-take r e h a ea =
-        let n : keptRefusal kept ≡ 0 → ⊥ = λ z. h (e ∙ z) in
-        let k : record { refusal = keptRefusal kept; length = 0; after = queueOf kept } ≡ keptTake s kept to level addr out =
-        sym (if-refused (keptRefusal kept) (takeAnswer s (queueOf kept) to level addr out) (record { refusal = keptRefusal kept; length = 0; after = queueOf kept }) n) in
-        let b = filled (short 1 answer) flat (keptTake s kept to level addr out .refusal) (keptTake s kept to level addr out .length ∷ []) answer (keptBuffer s kept to level addr out) out ef zf
-        r a out (e ∙ ap (λ (x : Taken). x .refusal) k) ea (ap (λ (x : Taken). x .length ∷ []) k) (sym (if-refused (keptRefusal kept) (takeBuffer s (queueOf kept) to level addr out) out n)) in
-        (b .0, (b .1 .0, (b .1 .1, left-alone _ r _ kept (b .0) h)))
+  module _ (r : ℕ) (a : List ℕ) (f : Flat kept answer r a) where
+    pub take-stops : (r ≡ 0 → ⊥) → Takes r a out kept
+    take-stops h =
+        let unfit : (keptRefusal kept ≡ 0 → ⊥) → (keptTake s kept to level addr out .refusal ≡ keptRefusal kept) × (keptTake s kept to level addr out .length ≡ 0) =
+        λ k. (ap (λ (x : Taken). x .refusal) (take-unfit k .0), ap (λ (x : Taken). x .length) (take-unfit k .0)) in
+        let b = flat-stops kept answer r a f h (keptTake s kept to level addr out .refusal) (keptTake s kept to level addr out .length) unfit in
+        let same : out ≡ ifTaken (short 1 answer) (keptBuffer s kept to level addr out) out =
+        by-taken (keptRefusal kept) (λ z. sym (if-refused (short 1 answer) _ out (λ y. h (f .0 ∙ ap₂ _orElse_ y z))))
+        (λ k. by-taken (short 1 answer) (λ y. sym (if-taken (short 1 answer) _ out y ∙ take-unfit k .1)) (λ n. sym (if-refused (short 1 answer) _ out n))) in
+        (b .0, (b .1, (same, left-alone _ r _ kept (b .0) h)))
 
-    module _ (z : keptRefusal kept ≡ 0) (step : Step)
+    module _ (z : r ≡ 0) (step : Step)
         (es : step ≡ stepOf s (queueWith (getD kept 0 0) (getD kept 1 0) (getD kept 2 0) (take 32 (drop 3 kept)) (take 32 (drop 35 kept)) (take (length kept - 67) (drop 67 kept))) to level addr out) where
+      slots : short 1 answer ≡ 0
+      slots = flat-goes kept answer r a f z .0
+
+      fitting : keptRefusal kept ≡ 0
+      fitting = flat-goes kept answer r a f z .1 .0
+
       take-size : length kept ≡ 70
-      take-size = fits kept z .0
+      take-size = fits kept fitting .0
 
       take-called : keptTake s kept to level addr out ≡ takeAnswer s (queueOf kept) to level addr out
       unfolding keptTake
-      take-called = if-taken (keptRefusal kept) (takeAnswer s (queueOf kept) to level addr out) (record { refusal = keptRefusal kept; length = 0; after = queueOf kept }) z
+      take-called = if-taken (keptRefusal kept) (takeAnswer s (queueOf kept) to level addr out) (record { refusal = keptRefusal kept; length = 0; after = queueOf kept }) fitting
 
       buffer-called : keptBuffer s kept to level addr out ≡ takeBuffer s (queueOf kept) to level addr out
       unfolding keptBuffer
-      buffer-called = if-taken (keptRefusal kept) (takeBuffer s (queueOf kept) to level addr out) out z
+      buffer-called = if-taken (keptRefusal kept) (takeBuffer s (queueOf kept) to level addr out) out fitting
 
       -- refused, the record after it is the record that came
       same-queue : (keptTake s kept to level addr out .refusal ≡ 0 → ⊥) → keptTake s kept to level addr out .after ≡ queueOf kept
@@ -182,28 +192,25 @@ module _ (s kept : List ℕ) (to level addr : ℕ) (out answer : List ℕ) where
       pub take-done : (after : List ℕ)
           → after ≡ takeBuffer s (queueWith (getD kept 0 0) (getD kept 1 0) (getD kept 2 0) (take 32 (drop 3 kept)) (take 32 (drop 35 kept)) (take (length kept - 67) (drop 67 kept))) to level addr out
           → (us : List ℕ) → length us ≡ length (midOf 67 (length taken-kept - 67) taken-kept) → ((g : List ℕ) → step .blocks ≡ droppable g → us ≡ lowered g (midOf 67 (length taken-kept - 67) taken-kept))
-          → (a : List ℕ) → a ≡ put (step .length ∷ []) answer → Takes (step .refusal) a after (putMid 67 (length taken-kept - 67) taken-kept us)
-      take-done after eb us as-many lower a ea =
+          → Takes (step .refusal) (set a 0 (step .length)) after (putMid 67 (length taken-kept - 67) taken-kept us)
+      take-done after eb us as-many lower =
           let down : (g : List ℕ) → step .blocks ≡ droppable g → us ≡ lowered g (take (length kept - 67) (drop 67 kept)) =
           λ g e. lower g e ∙ ap (lowered g) (taken-totals ∙ sym (totals-lent kept take-size)) in
           let t = taken-by s (queueOf kept) to level addr out (queueOf kept .lengths) (queueOf kept .clocks) _ refl (lengths-32 kept take-size) refl (clocks-32 kept take-size) (totals-lent kept take-size) (part-3 kept take-size) step es
           after eb us down in
           let so : takenWith step (queueOf kept .lengths) (queueOf kept .clocks) us ≡ keptTake s kept to level addr out = t .0 ∙ sym take-called in
-          let b = filled (short 1 answer) flat (keptTake s kept to level addr out .refusal) (keptTake s kept to level addr out .length ∷ []) answer (keptBuffer s kept to level addr out) out ef zf
-          (step .refusal) a after (ap (λ (x : Taken). x .refusal) so) ea (ap (λ (x : Taken). x .length ∷ []) so) (t .1 .0 ∙ sym buffer-called) in
-          let zs : short 1 answer ≡ 0 = sym ef ∙ zf in
+          let b = flat-done kept answer r a f z (keptTake s kept to level addr out .refusal) (keptTake s kept to level addr out .length) (step .refusal) (step .length) (ap (λ (x : Taken). x .refusal) so) (ap (λ (x : Taken). x .length) so) in
           let made : take 67 taken-kept ++ us ≡ queueNumbers (keptTake s kept to level addr out .after) =
-          ap (λ (x : List ℕ). x ++ us) (head-first kept take-size (step .head) (step .first) (step .count)) ∙ ap (λ (x : Taken). queueNumbers (x .after)) so in
-          let three : length us ≡ 3 = as-many ∙ lowerable .0 in (
+          ap (λ (x : List ℕ). x ++ us) (head-first kept take-size (step .head) (step .first) (step .count)) ∙ ap (λ (x : Taken). queueNumbers (x .after)) so in (
             b .0,
             (
-              b .1 .0,
+              b .1,
               (
-                b .1 .1,
+                t .1 .0 ∙ sym buffer-called ∙ sym (if-taken (short 1 answer) (keptBuffer s kept to level addr out) out slots),
                 put-back taken-kept taken-size us
                     ∙ stored-over kept (short 1 answer orElse keptTake s kept to level addr out .refusal) (keptTake s kept to level addr out .after) (take 67 taken-kept ++ us) take-size
-                    (still-70 taken-kept us taken-size three) made
-                    (λ h. same-queue (λ n. h (ap (λ (f : ℕ). f orElse keptTake s kept to level addr out .refusal) zs ∙ n))),
+                    (still-70 taken-kept us taken-size (as-many ∙ lowerable .0)) made
+                    (λ h. same-queue (λ n. h (ap (λ (x : ℕ). x orElse keptTake s kept to level addr out .refusal) slots ∙ n))),
               ),
             ),
           )

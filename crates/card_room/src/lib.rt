@@ -5,9 +5,8 @@ ghost use Rattle.refusals.specs.Refusals.{_orElse_, ifTaken};
 ghost use Rattle.card.specs.Card.{short, written};
 ghost use Rattle.card_queue.specs.Queues.{queueNumbers};
 ghost use Rattle.card_room.specs.Rooms.{keptEnter, keptStore, keptTake, keptBuffer};
-use card::put;
+use card_queue::flat_refusal;
 use card_queue::kept_refusal;
-use refusals::refusal_16;
 
 // A frame enters.
 #[no_mangle]
@@ -62,15 +61,9 @@ pub extern "C" fn pelgrant_queue_take(
     ensures out { λ _. ⌜ now (out .exit) ≡ ifTaken (short 1 (now (answer .entry))) (keptBuffer (now (store .entry)) (now (kept .entry)) to level address (now (out .entry))) (now (out .entry)) ⌝ }
     ensures kept { λ _. ⌜ now (kept .exit) ≡ written (short 1 (now (answer .entry)) orElse keptTake (now (store .entry)) (now (kept .entry)) to level address (now (out .entry)) .refusal) (queueNumbers (keptTake (now (store .entry)) (now (kept .entry)) to level address (now (out .entry)) .after)) (now (kept .entry)) ⌝ }
 {
-    let flat = refusal_16(answer.len(), 1);
+    let flat = flat_refusal(kept, answer);
     if flat != 0 {
         return flat;
-    }
-    let unfit = kept_refusal(kept);
-    if unfit != 0 {
-        let none = [0u64; 1];
-        put(&none, answer);
-        return unfit;
     }
     let step = room::take_by(
         store,
@@ -85,8 +78,7 @@ pub extern "C" fn pelgrant_queue_take(
         address,
         out,
     );
-    let numbers = [step.length as u64];
-    put(&numbers, answer);
+    answer[0] = step.length as u64;
     kept[0] = step.head;
     kept[1] = step.first;
     kept[2] = step.count;

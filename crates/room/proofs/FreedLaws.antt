@@ -29,19 +29,6 @@ longest q octets few =
       go true = refl
       go false = refl
 
--- the lengths and the readings are of no account
-pub freed-bare : (q : Queue) (ls : List ℕ) (level : ℕ) → ls ≡ q .lengths → Slots ls → (ts : List ℕ) → ts ≡ q .totals
-    → freedAnswer (bare (q .head) (q .first) (q .count) [] ts) level ≡ freedAnswer q level
-unfolding freedAnswer
-freed-bare q ls level el slots ts et =
-    let p : Queue = bare (q .head) (q .first) (q .count) [] (q .totals) in
-    let few : length (q .lengths) ≤ 32 = omega (arith, sym (ap length el) ∙ slots .all) in
-    let same : outside 16384 p ≡ outside 16384 q = longest p (λ i. omega arith) (omega arith) ∙ sym (longest q (λ i. rw (← el) (slots .octets i)) few) in
-    ap (λ (x : List ℕ). freedAnswer (bare (q .head) (q .first) (q .count) [] x) level) et
-    ∙ ap (λ (b : Bool). ifTaken (refuse b 14 orElse refusal10 level)
-    (record { refusal = 0; octets = total (q .totals) level })
-    (record { refusal = refuse b 14 orElse refusal10 level; octets = 0 })) same
-
 -- as the code judges it
 module _ (head first count : ℕ) (ts : List ℕ) (level : ℕ) (wrong : Bool) (k t r : ℕ)
     (ew : wrong ≡ (misplaced 16384 (bare head first count [] ts) || overfull (bare head first count [] ts)))
@@ -60,6 +47,16 @@ module _ (head first count : ℕ) (ts : List ℕ) (level : ℕ) (wrong : Bool) (
   pub freed-done : r ≡ 0 → (octets : ℕ) → octets ≡ total ts level → record { refusal = 0; octets = octets } ≡ freedAnswer (bare head first count [] ts) level
   unfolding freedAnswer
   freed-done z octets e = done-is _ r _ _ _ freed-number z (ap (λ (n : ℕ). record { refusal = 0; octets = n }) e)
+
+-- the lengths and the readings are of no account
+pub freed-bare : (q : Queue) (ls : List ℕ) (level : ℕ) → ls ≡ q .lengths → Slots ls → (ts : List ℕ) → ts ≡ q .totals
+    → freedAnswer (bare (q .head) (q .first) (q .count) [] ts) level ≡ freedAnswer q level
+unfolding freedAnswer
+freed-bare q ls level el slots ts et =
+    let p : Queue = bare (q .head) (q .first) (q .count) [] (q .totals) in
+    let few : length (q .lengths) ≤ 32 = omega (arith, sym (ap length el) ∙ slots .all) in
+    let same : outside 16384 p ≡ outside 16384 q = longest p (λ i. omega arith) (omega arith) ∙ sym (longest q (λ i. rw (← el) (slots .octets i)) few) in
+    ap (λ (x : List ℕ). freedAnswer (bare (q .head) (q .first) (q .count) [] x) level) et ∙ rw same refl
 
 -- a record that 14 refuses with every store is refused, and no other
 pub freed-14 : (q : Queue) → (n : ℕ) → refusal14 n q ≡ 0 → refusal14 16384 q ≡ 0

@@ -108,7 +108,10 @@ lowered-none f ts h e = each-level (λ level. total ts level - gives level f) (t
   same : (level : ℕ) → total ts level - gives level f ≡ total ts level
   same level = let n : gives level f ≡ 0 = gives-is level f ∙ ap (λ (k : ℕ). 16 * min k level) e ∙ omega arith in rw n (omega arith)
 
--- the total of a level that is not 0
+-- the total of level 0, and of one that is not
+pub total-none : (ts : List ℕ) (level : ℕ) → level ≡ 0 → 0 ≡ total ts level
+total-none ts level e = rw e refl
+
 pub total-at : (ts : List ℕ) (level : ℕ) → (level ≡ 0 → ⊥) → getD ts (level - 1) 0 ≡ total ts level
 total-at ts zero h = absurd (h refl)
 total-at ts (suc k) h = let e : suc k - 1 ≡ k = omega arith in rw e refl

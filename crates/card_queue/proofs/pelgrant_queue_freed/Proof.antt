@@ -1,53 +1,39 @@
-use Prim.Native.Nat.{ℕ}
-use mathlib.Core.Path.{_≡_, sym, ap, _∙_}
-use mathlib.Core.List.{List, []}
+use mathlib.Core.Path.{_≡_, ap}
 use native.Mathlib.Omega.{arith}
-use lib.ListN.{length, getD}
+use lib.ListN.{length}
 use borrow.Author.Needs.{needs}
-use Rattle.room.specs.Rules.{freedAnswer}
-use Rattle.room.specs.Parts.{bare}
-use Rattle.card.proofs.CardLaws.{not-called, roomy}
-use Rattle.card_queue.specs.Queues.{keptRefusal}
-use Rattle.card_queue.proofs.QueueLaws.{fits, totals-lent, part-3, none-freed, freed-so}
+use Rattle.room.specs.declared.GivenBack.{GivenBack}
+use Rattle.card_queue.specs.Queues.{keptRefusal, keptFreed}
+use Rattle.card_queue.proofs.QueueLaws.{fits, part-3, Flat, flat-stops, flat-goes, flat-room, flat-done, freed-unfit, freed-so}
 use Rattle.card_queue.proofs.pelgrant_queue_freed.Statement.{statement}
 use Rattle.card_queue.proofs.pelgrant_queue_freed.Tie as tie
 
-abbrev start : tie.After-refusal-16 → tie.Start
-start k = k .before .before .before
+abbrev start : tie.After-flat-refusal → tie.Start
+start f = f .before .before .before .before
 
-none : (e : tie.Else2) → keptRefusal (start (e .before .before .before) .args .kept .now) ≡ 0
-none e = sym (e .before .kept-refusal .ensures) ∙ e .if2 .left
+-- what the form has against the call
+flat : (f : tie.After-flat-refusal) → Flat (start f .args .kept .now) (start f .args .answer .now) (f .flat-refusal .result) (f .flat-refusal .last .1 .0)
+flat f = (f .flat-refusal .ensures .0, f .flat-refusal .ensures .1)
 
-size : (e : tie.Else2) → length (start (e .before .before .before) .args .kept .now) ≡ 70
+none : (e : tie.Else1) → keptRefusal (start (e .before .before .before) .args .kept .now) ≡ 0
+none e =
+    let f = e .before .before .before in
+    flat-goes (start f .args .kept .now) (start f .args .answer .now) (f .flat-refusal .result) (f .flat-refusal .last .1 .0) (flat f) (e .if1 .left) .1 .0
+
+size : (e : tie.Else1) → length (start (e .before .before .before) .args .kept .now) ≡ 70
 size e = fits (start (e .before .before .before) .args .kept .now) (none e) .0
 
-refusal-16-requires : tie.Need-refusal-16-requires
-refusal-16-requires c κs = tt
-
-returns : tie.Need-returns
-returns c =
-    let r = c .before .refusal-16 in
-    not-called _ (r .result) _ _ (start (c .before) .args .answer .now) (r .ensures) (c .if1 .taken)
-
-kept-refusal-requires : tie.Need-kept-refusal-requires
-kept-refusal-requires c κs = tt
-
-slice-aggregate-put : tie.Need-slice-aggregate-put
-slice-aggregate-put c = search needs
-
-put-requires : tie.Need-put-requires
-put-requires c κs = let f = c .before .before .before .before .before in roomy (f .refusal-16 .ensures) (c .before .before .before .before .if1 .left)
+flat-refusal-requires : tie.Need-flat-refusal-requires
+flat-refusal-requires c κs = tt
 
 same-length : tie.Need-same-length
 same-length c = search needs
 
-returns-2 : tie.Need-returns-2
-returns-2 c =
-    let d = c .before .before .before .before .before in
-    let f = d .before .before .before in
+returns : tie.Need-returns
+returns c =
+    let f = c .before .before .before in
     let a = start f .args in
-    let r = d .before .kept-refusal in
-    none-freed (a .kept .now) (a .level) (a .answer .now) (f .refusal-16 .result) (f .refusal-16 .ensures) (d .before .before .if1 .left) (r .result) (r .ensures) (d .if2 .taken) _ (c .before .before .put .ensures)
+    flat-stops (a .kept .now) (a .answer .now) (f .flat-refusal .result) (f .flat-refusal .last .1 .0) (flat f) (c .if1 .taken) (keptFreed (a .kept .now) (a .level) .refusal) (keptFreed (a .kept .now) (a .level) .octets) (freed-unfit (a .kept .now) (a .level))
 
 shared-slice-read-freed-by : tie.Need-shared-slice-read-freed-by
 shared-slice-read-freed-by c = omega (arith, size (c .before))
@@ -70,38 +56,35 @@ part-freed-by-end c = search needs
 freed-by-requires : tie.Need-freed-by-requires
 freed-by-requires c κs = let e = c .before .before .before .before in part-3 (start (e .before .before .before) .args .kept .now) (size e)
 
-cast-octets : tie.Need-cast-octets
-cast-octets c = search needs
+cast-answer : tie.Need-cast-answer
+cast-answer c = search needs
 
-slice-aggregate-put-2 : tie.Need-slice-aggregate-put-2
-slice-aggregate-put-2 c = search needs
-
-put-requires-2 : tie.Need-put-requires-2
-put-requires-2 c κs = let e = c .before .before .before .before .before .before .before .before in roomy (e .before .before .before .refusal-16 .ensures) (e .before .before .if1 .left)
+slice-write-answer : tie.Need-slice-write-answer
+slice-write-answer c =
+    let e = c .before .before .before .before .before .before in
+    let f = e .before .before .before in
+    flat-room (start f .args .kept .now) (start f .args .answer .now) (f .flat-refusal .result) (f .flat-refusal .last .1 .0) (flat f) (e .if1 .left)
 
 same-length-2 : tie.Need-same-length-2
 same-length-2 c = search needs
 
-returns-3 : tie.Need-returns-3
-returns-3 c =
-    let v = c .before .before .before .before .before .before in
-    let e = v .before .before .before .before .before in
+returns-2 : tie.Need-returns-2
+returns-2 c =
+    let v = c .before .freed-by in
+    let e = c .before .before .before .before .before .before in
     let f = e .before .before .before in
     let a = start f .args in
-    freed-so (a .kept .now) (a .level) (a .answer .now) (f .refusal-16 .result) (f .refusal-16 .ensures) (e .before .before .if1 .left) (none e) (v .freed-by .result)
-    (v .freed-by .ensures ∙ ap (λ (ts : List ℕ). freedAnswer (bare (getD (a .kept .now) 0 0) (getD (a .kept .now) 1 0) (getD (a .kept .now) 2 0) [] ts) (a .level)) (totals-lent (a .kept .now) (size e))) _ (c .before .before .put2 .ensures)
+    let so = freed-so (a .kept .now) (a .level) (none e) (v .result) (v .ensures) in
+    flat-done (a .kept .now) (a .answer .now) (f .flat-refusal .result) (f .flat-refusal .last .1 .0) (flat f) (e .if1 .left) (keptFreed (a .kept .now) (a .level) .refusal) (keptFreed (a .kept .now) (a .level) .octets) (v .result .refusal) (v .result .octets)
+    (ap (λ (x : GivenBack). x .refusal) so) (ap (λ (x : GivenBack). x .octets) so)
 
 pub pelgrant-queue-freed-spec : {M : Type 1} → statement M
 pelgrant-queue-freed-spec =
     tie.close
     (tie.spec
-    refusal-16-requires
-    returns
-    kept-refusal-requires
-    slice-aggregate-put
-    put-requires
+    flat-refusal-requires
     same-length
-    returns-2
+    returns
     shared-slice-read-freed-by
     shared-slice-read-freed-by-2
     shared-slice-read-freed-by-3
@@ -109,8 +92,7 @@ pelgrant-queue-freed-spec =
     part-freed-by-start
     part-freed-by-end
     freed-by-requires
-    cast-octets
-    slice-aggregate-put-2
-    put-requires-2
+    cast-answer
+    slice-write-answer
     same-length-2
-    returns-3)
+    returns-2)

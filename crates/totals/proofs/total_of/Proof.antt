@@ -1,10 +1,10 @@
 use borrow.Author.Needs.{needs}
-use Rattle.totals.proofs.TotalsLaws.{total-at}
+use Rattle.totals.proofs.TotalsLaws.{total-none, total-at}
 use Rattle.totals.proofs.total_of.Statement.{statement}
 use Rattle.totals.proofs.total_of.Tie as tie
 
 returns : tie.Need-returns
-returns c = search needs
+returns c = let a = c .before .args in total-none (a .totals .now) (a .level) (c .if1 .taken)
 
 sub-result : tie.Need-sub-result
 sub-result c = search needs
