@@ -104,7 +104,7 @@ module _ (s kept f : List ℕ) (clock : ℕ) where
           × (putMid 67 (length entered-kept - 67) entered-kept us ≡ written (keptEnter s kept f clock .refusal) (queueNumbers (keptEnter s kept f clock .after)) kept))
       enter-done us as-many raise =
           let up : (g : List ℕ) → spot .blocks ≡ droppable g → us ≡ raised g (queueOf kept .totals) = λ g e. raise g e ∙ ap (raised g) entered-totals in
-          let a = entry-done s (queueOf kept) f clock spot t m n us up in
+          let a = entry-done s (queueOf kept) f clock spot t m n _ _ us refl refl up in
           let e = a .0 ∙ sym enter-called in
           let k : 0 ≡ keptEnter s kept f clock .refusal = ap (λ (x : Entered). x .refusal) e in
           let made : take 67 entered-kept ++ us ≡ queueNumbers (keptEnter s kept f clock .after) =

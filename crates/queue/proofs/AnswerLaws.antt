@@ -59,10 +59,9 @@ pub record Slotted (q : Queue) (f : List ℕ) (spot : Spot) : Type 0 where
   pub blocks : spot .blocks < 4
   pub totals : Totalled (q .totals)
 
--- the record with the frame in a slot, and the totals raised
-abbrev pub entered-in : Queue → List ℕ → ℕ → ℕ → List ℕ → Queue
-entered-in q f clock slot us =
-    queueWith (q .head) (q .first) (q .count + 1) (set (q .lengths) slot (length f)) (set (q .clocks) slot clock) us
+-- the record with one more, by its slots and totals
+abbrev pub enteredWith : Queue → List ℕ → List ℕ → List ℕ → Queue
+enteredWith q ls cs us = queueWith (q .head) (q .first) (q .count + 1) ls cs us
 
 module _ (s : List ℕ) (q : Queue) (f : List ℕ) (clock : ℕ) (spot : Spot) (t : List ℕ) (m : Met s q f spot t) where
   number : spot .refusal ≡ entryBy (length s) q f
@@ -104,16 +103,18 @@ module _ (s : List ℕ) (q : Queue) (f : List ℕ) (clock : ℕ) (spot : Spot) (
       outcome (record { refusal = spot .refusal; after = q })
       (ap₂ (λ (r : ℕ) (p : Queue). record { refusal = r; after = p }) e (sym (if-refused (enterRefusal s q f) (withFrame q f clock) q (λ z. h (e ∙ z)))))
 
-  pub entry-done : (z : spot .refusal ≡ 0) (us : List ℕ) → ((g : List ℕ) → spot .blocks ≡ droppable g → us ≡ raised g (q .totals))
-      → (record { refusal = 0; after = entered-in q f clock (spot .slot) us } ≡ enterAnswer s q f clock)
-      × ((t ≡ enterStore s q f) × (waiting t (entered-in q f clock (spot .slot) us) ≡ entered 0 (waiting s q) f clock))
+  pub entry-done : (z : spot .refusal ≡ 0) (ls cs us : List ℕ) → ls ≡ set (q .lengths) (spot .slot) (length f) → cs ≡ set (q .clocks) (spot .slot) clock
+      → ((g : List ℕ) → spot .blocks ≡ droppable g → us ≡ raised g (q .totals))
+      → (record { refusal = 0; after = enteredWith q ls cs us } ≡ enterAnswer s q f clock)
+      × ((t ≡ enterStore s q f) × (waiting t (enteredWith q ls cs us) ≡ entered 0 (waiting s q) f clock))
   unfolding enterAnswer enterQueue withFrame
-  entry-done z us raise =
+  entry-done z ls cs us el ec raise =
       let e : 0 ≡ enterRefusal s q f = sym z ∙ number ∙ by-numbers s q f (m .lengths-32) (m .clocks-32) in
       let y = slotted z in
-      outcome (record { refusal = 0; after = entered-in q f clock (spot .slot) us })
+      let at : ℕ → List ℕ → Queue = λ k ts. enteredWith q (set (q .lengths) k (length f)) (set (q .clocks) k clock) ts in
+      outcome (record { refusal = 0; after = enteredWith q ls cs us })
       (ap₂ (λ (r : ℕ) (p : Queue). record { refusal = r; after = p }) e
-      (ap₂ (entered-in q f clock) (y .after-last) (raise f (y .counted)) ∙ sym (if-taken (enterRefusal s q f) (withFrame q f clock) q (sym e))))
+      (ap₂ (λ (l c : List ℕ). enteredWith q l c us) el ec ∙ ap₂ at (y .after-last) (raise f (y .counted)) ∙ sym (if-taken (enterRefusal s q f) (withFrame q f clock) q (sym e))))
 
 -- the answer that a step, the slots and the totals make
 abbrev pub takenWith : Step → List ℕ → List ℕ → List ℕ → Taken

@@ -1,4 +1,4 @@
-use mathlib.Core.Path.{ap, _∙_}
+use mathlib.Core.Path.{refl, ap, _∙_}
 use native.Mathlib.Omega.{arith}
 use borrow.Author.Needs.{needs}
 use Rattle.totals.specs.Totals.{raised}
@@ -93,7 +93,7 @@ returns-2 c =
     let a = start k .args in
     let h = k .before .before .before .before .before .before .before .three in
     let r = c .before .raise in
-    entry-done (a .store .now) (a .q) (a .frame .now) (a .clock) (spot k .enter-by .result) (spot k .enter-by .last .0) (made k) (d .if1 .left) (r .last .0)
+    entry-done (a .store .now) (a .q) (a .frame .now) (a .clock) (spot k .enter-by .result) (spot k .enter-by .last .0) (made k) (d .if1 .left) _ _ (r .last .0) refl refl
     (λ g e. r .ensures g e ∙ ap (raised g) (h .ensures .0))
 
 pub enter-spec : {M : Type 1} → statement M
