@@ -1,8 +1,8 @@
 /* Two bursts of speech from an origin through two nodes to an endpoint, as an operator would want to
  * see them: what each frame weighs on the way, when it is played and what is left of the voice. The
  * stop packet of the second comes late. The signalling of a trunk that dies and comes back, and a frame of
- * a foreign unit that sets the poll bit. Three frames on a line of bare bits, one of them damaged there. And
- * three that wait at a node until its line is ready. */
+ * a foreign unit that sets the poll bit. Three frames on a line of bare bits, one of them damaged there. Three
+ * that wait at a node until its line is ready. And what each level would give back of three others. */
 
 #include <stdio.h>
 #include <string.h>
@@ -10,7 +10,7 @@
 #include "pelgrant.h"
 
 /* The stop packet has a noise of its own, so that it is seen to count. */
-enum { CODING = 21, NOISE = 3, NOISE_AT_STOP = 5, BUILD_OUT = 100, PACKETS = 6, FRAMES = 3 };
+enum { CODING = 21, NOISE = 3, NOISE_AT_STOP = 5, BUILD_OUT = 100, PACKETS = 6, FRAMES = 3, LEVELS = 3 };
 
 /* Refusals after which it goes on: a packet that is late, what of a line is damaged, a waiting room that is
  * full or empty. */
@@ -49,6 +49,26 @@ static uint8_t node(frame *passing, uint8_t level, uint32_t from, uint32_t to, u
         out.length = (size_t)length;
         *passing = out;
     }
+    return number;
+}
+
+/* A packet of a burst as it comes from an origin that has dropped so many blocks of it. */
+static uint8_t origin(frame *made, uint8_t *sseq, int place, uint8_t coding, uint8_t dropped)
+{
+    uint8_t samples[PELGRANT_SAMPLES];
+    uint64_t length = 0;
+    speak(place, samples);
+    uint8_t number = pelgrant_send(sseq, place == 0 ? PELGRANT_START : PELGRANT_DATA, coding, NOISE, samples,
+        sizeof samples, dropped, 0, 2, 128, made->octets, sizeof made->octets, &length, 1);
+    made->length = (size_t)length;
+    return number;
+}
+
+static uint8_t signalling(frame *made)
+{
+    uint64_t length = 0;
+    uint8_t number = pelgrant_signal_write(8, 0, 0, 0, 4711, made->octets, sizeof made->octets, &length, 1);
+    made->length = (size_t)length;
     return number;
 }
 
@@ -120,12 +140,11 @@ static int bare_bits(const frame *voice)
     uint8_t line[256], out[PELGRANT_LINE_FRAME_MAX];
     uint64_t answer[3];
     size_t count = 0, place = 0;
-    frame signalling = {{0}, 0};
-    uint8_t number = pelgrant_signal_write(8, 0, 0, 0, 4711, signalling.octets, sizeof signalling.octets, answer, 1);
+    frame four_bits;
+    uint8_t number = signalling(&four_bits);
     if (number != 0)
         return refused("the signalling writer", number);
-    signalling.length = (size_t)answer[0];
-    const frame *const put[FRAMES] = {&signalling, voice, &signalling};
+    const frame *const put[FRAMES] = {&four_bits, voice, &four_bits};
 
     printf("\nThree frames on a line of bits\n\n");
     for (int n = 0; n < FRAMES; n++) {
@@ -166,17 +185,14 @@ static int waiting_room(void)
         {4294967286u, 0, 0, 0}, {4294967295u, 1, 0, 0}, {2, 2, 0, 0}, {10, LEAVES, 0, 300}, {10, 2, 0, 0},
         {30, LEAVES, 1, 4711}, {43, LEAVES, 2, 4711}, {43, LEAVES, 0, 4711},
     };
-    uint8_t store[300], samples[PELGRANT_SAMPLES], sseq = 0;
+    uint8_t store[300], sseq = 0;
     uint32_t queue[PELGRANT_QUEUE];
     uint64_t answer = 0;
     frame came[FRAMES];
     for (int n = 0; n < FRAMES; n++) {
-        speak(n, samples);
-        uint8_t number = pelgrant_send(&sseq, n == 0 ? PELGRANT_START : PELGRANT_DATA, TYPE_24, NOISE, samples,
-            sizeof samples, 0, 0, 2, 128, came[n].octets, sizeof came[n].octets, &answer, 1);
+        uint8_t number = origin(&came[n], &sseq, n, TYPE_24, 0);
         if (number != 0)
             return refused("the origin", number);
-        came[n].length = (size_t)answer;
     }
 
     uint8_t number = pelgrant_queue_fresh(queue, PELGRANT_QUEUE);
@@ -206,6 +222,68 @@ static int waiting_room(void)
             printf("  %5d  %7d", calls[n].level, (passing.octets[0] >> 2 << 7) | (passing.octets[1] >> 1));
         printf("\n");
     }
+    return 0;
+}
+
+/* What each level would give back of those that wait after a frame of so many octets came or went. */
+static int ask(const char *event, size_t octets, const uint32_t queue[PELGRANT_QUEUE], uint64_t freed[LEVELS])
+{
+    printf("%s  %6zu  %7lu", event, octets, (unsigned long)queue[PELGRANT_QUEUE_COUNT]);
+    for (uint8_t level = 1; level <= LEVELS; level++) {
+        uint8_t number = pelgrant_queue_freed(queue, PELGRANT_QUEUE, level, &freed[level - 1], 1);
+        if (number != 0)
+            return refused("the question", number);
+        printf("  %7llu", (unsigned long long)freed[level - 1]);
+    }
+    printf("\n");
+    return 0;
+}
+
+/* A signalling frame and two of voice wait, the second of which has lost two blocks already. All leave at one level,
+ * and together they are as many octets shorter as were answered for it. */
+static int congested_node(void)
+{
+    enum { LEVEL = 2 };
+    uint8_t store[300], sseq = 0;
+    uint32_t queue[PELGRANT_QUEUE];
+    uint64_t freed[LEVELS], length = 0;
+    size_t came = 0, left = 0;
+    frame waiting[FRAMES];
+    uint8_t number = signalling(&waiting[0]);
+    if (number != 0)
+        return refused("the signalling writer", number);
+    for (int n = 0; n < 2; n++) {
+        number = origin(&waiting[n + 1], &sseq, n, CODING, n == 0 ? 0 : 2);
+        if (number != 0)
+            return refused("the origin", number);
+    }
+
+    number = pelgrant_queue_fresh(queue, PELGRANT_QUEUE);
+    if (number != 0)
+        return refused("the fresh queue", number);
+    printf("\nWhat each level would give back of those that wait\n\n"
+           "        octets  waiting  level 1  level 2  level 3\n");
+    for (int n = 0; n < FRAMES; n++) {
+        number = pelgrant_queue_enter(store, sizeof store, queue, PELGRANT_QUEUE, waiting[n].octets,
+            waiting[n].length, 0);
+        if (number != 0)
+            return refused("the waiting room", number);
+        if (ask("enters", waiting[n].length, queue, freed) != 0)
+            return 1;
+        came += waiting[n].length;
+    }
+    uint64_t answered = freed[LEVEL - 1];
+    for (int n = 0; n < FRAMES; n++) {
+        number = pelgrant_queue_take(store, sizeof store, queue, PELGRANT_QUEUE, 5, LEVEL, 300, waiting[n].octets,
+            sizeof waiting[n].octets, &length, 1);
+        if (number != 0)
+            return refused("the waiting room", number);
+        if (ask("leaves", (size_t)length, queue, freed) != 0)
+            return 1;
+        left += (size_t)length;
+    }
+    printf("all left at level %d, %zu octets shorter; %llu were answered\n", LEVEL, came - left,
+        (unsigned long long)answered);
     return 0;
 }
 
@@ -313,5 +391,5 @@ int main(void)
     if (trunk() != 0)
         return 1;
     foreign_unit();
-    return bare_bits(&line.came) != 0 || waiting_room() != 0;
+    return bare_bits(&line.came) != 0 || waiting_room() != 0 || congested_node() != 0;
 }

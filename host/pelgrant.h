@@ -1,6 +1,6 @@
 /* The calls of the card, for a host in C. Document 01 is the law of what they do, as requests A2 and A5
  * of document 02 amend it; for the two calls of the signalling watch it is request A1, for the two of a
- * line of bits request A4, for the three of a waiting room request A6.
+ * line of bits request A4, for the four of a waiting room requests A6 and A7.
  *
  * Every call takes any octets and any numbers, comes to an end and gives a refusal number of
  * those documents, 0 when done. Where several apply, the one that stands first in the call's order,
@@ -34,12 +34,14 @@
  * A line is lent octets and a count of bits, lowest bit of each octet first: bit i of the line is bit
  * i % 8 of octet i / 8. A flag is a zero, six ones and a zero.
  *
- * A waiting room is a store, lent octets, and a queue, the record of what waits there: 67 numbers of 32
+ * A waiting room is a store, lent octets, and a queue, the record of what waits there: 70 numbers of 32
  * bits. Frame k that waits, from 0, has slot (FIRST + k) % 32, where its length and its clock reading at
  * arrival stand. The first frame begins at place HEAD of the store and each other where the one before it
  * ends; a frame that reaches the store's end goes on at its beginning, and a HEAD at the very end is the
  * same place as 0. What the slots hold that no waiting frame has is of no account, as long as each length
- * fits an octet.
+ * fits an octet. The three totals say what levels 1, 2 and 3 would give back: of each voice frame that
+ * waits, 16 octets times the lesser of its C and the level, and of signalling nothing. They are so as long
+ * as the host writes over neither queue nor store.
  */
 #ifndef PELGRANT_H
 #define PELGRANT_H
@@ -57,9 +59,10 @@ enum {
     PELGRANT_LINE_FRAME_MAX = 490, /* octets of the longest frame that a line carries */
     PELGRANT_RECORD = 6,           /* numbers in an endpoint's record */
     PELGRANT_WATCH = 9,            /* numbers in a circuit's signalling watch */
-    PELGRANT_QUEUE = 67,           /* numbers in a queue */
+    PELGRANT_QUEUE = 70,           /* numbers in a queue */
     PELGRANT_QUEUE_FRAMES = 32,    /* that may wait in one */
-    PELGRANT_STORE_MAX = 16384     /* octets of the longest store */
+    PELGRANT_STORE_MAX = 16384,    /* octets of the longest store */
+    PELGRANT_TOTAL_MAX = 1536      /* octets that a level gives back of 32 frames at the most */
 };
 
 /* The steps of a burst. */
@@ -94,13 +97,15 @@ enum {
 enum { PELGRANT_NORM = 0, PELGRANT_ALARM = 1, PELGRANT_L_ALARM = 1, PELGRANT_R_ALARM = 2 };
 
 /* The fields of a queue: the place in the store where the first frame begins, its slot, how many frames
- * wait, and of each of the 32 slots the frame's length and its clock reading at arrival. */
+ * wait, of each of the 32 slots the frame's length and its clock reading at arrival, and the totals of
+ * levels 1, 2 and 3. */
 enum {
     PELGRANT_QUEUE_HEAD = 0,
     PELGRANT_QUEUE_FIRST = 1,
     PELGRANT_QUEUE_COUNT = 2,
     PELGRANT_QUEUE_LENGTHS = 3,
-    PELGRANT_QUEUE_CLOCKS = 35
+    PELGRANT_QUEUE_CLOCKS = 35,
+    PELGRANT_QUEUE_TOTALS = 67
 };
 
 /* What a watch is told of: time passing, a reading of the four bits, a signalling frame taken. */
@@ -264,21 +269,23 @@ uint8_t pelgrant_line_next(const uint8_t *line, size_t line_len, size_t count, s
     uint8_t *out, size_t out_len, uint64_t *answer, size_t answer_len);
 
 /* Makes an empty queue: every number 0.
- * Lent: queue, exactly 67 numbers.
+ * Lent: queue, exactly 70 numbers.
  * Back: the queue.
- * Refusals: 14 where queue_len is not 67.
+ * Refusals: 14 where queue_len is not 70.
  * Untouched: where refused, the queue. */
 uint8_t pelgrant_queue_fresh(uint32_t *queue, size_t queue_len);
 
 /* A frame enters the waiting room, behind those that wait.
- * Lent: the store; the queue, exactly 67 numbers; the frame; clock, a reading of the 32-bit millisecond
+ * Lent: the store; the queue, exactly 70 numbers; the frame; clock, a reading of the 32-bit millisecond
  *   clock at its arrival.
  * Back: the frame in the store, behind the last one, or at HEAD where nothing waits; the queue with COUNT
- *   one more and, in slot (FIRST + COUNT) % 32 of the COUNT before, the frame's length and the reading.
- * Refusals: 14 where the store is longer than 16,384 octets, queue_len is not 67, a length in any slot is
+ *   one more, in slot (FIRST + COUNT) % 32 of the COUNT before the frame's length and the reading, and each
+ *   total greater by what its level would give back of the frame.
+ * Refusals: 14 where the store is longer than 16,384 octets, queue_len is not 70, a length in any slot is
  *   above 255, COUNT is above 32, FIRST above 31, HEAD above the store's length (also where nothing
- *   waits), or the lengths of those that wait are together more than the store's; then 1, 2, 3, 24, 4, 5, 6 (voice only), 7, 8, 9; 25 where 32
- *   are waiting, or where their lengths and the frame's own are together more than the store's.
+ *   waits), a total above 1,536, or the lengths of those that wait are together more than the store's;
+ *   then 1, 2, 3, 24, 4, 5, 6 (voice only), 7, 8, 9; 25 where 32 are waiting, or where their lengths and
+ *   the frame's own are together more than the store's.
  * Untouched: frame; every octet of the store and every number of the queue not named above; where
  *   refused, all of both. */
 uint8_t pelgrant_queue_enter(uint8_t *store, size_t store_len, uint32_t *queue, size_t queue_len,
@@ -286,17 +293,28 @@ uint8_t pelgrant_queue_enter(uint8_t *store, size_t store_len, uint32_t *queue, 
 
 /* The first frame that waits is sent on as pelgrant_forward does it, its wait running from its reading at
  * arrival to the present one, which may have rolled over, and leaves the waiting room.
- * Lent: the store; the queue, exactly 67 numbers; to, the present reading; level, 0 to 3; the outgoing
+ * Lent: the store; the queue, exactly 70 numbers; to, the present reading; level, 0 to 3; the outgoing
  *   address; out, for the frame sent on.
  * Back: answer[0] the length of the frame sent on; that frame in out; the queue with COUNT one less, FIRST
- *   the next slot (0 after 31), and HEAD further by the frame's length as it waited, less the store's
- *   length where the sum is not below it.
+ *   the next slot (0 after 31), HEAD further by the frame's length as it waited, less the store's length
+ *   where the sum is not below it, and each total less by what its level would have given back of the
+ *   frame as the store has it, whatever level it is sent on with; a total that is less than that becomes 0.
  * Refusals: 16 (answer), 14 as for pelgrant_queue_enter, 26 where nothing waits, then those of
  *   pelgrant_forward: 10, 15, 1, 2, 3, 24, 4, 5, 6 (voice only), 7, 8, 9, 16. The frame then waits on.
  * Untouched: store; every number of the queue not named above; the rest of out; where refused, all of the
  *   queue and of out. */
 uint8_t pelgrant_queue_take(const uint8_t *store, size_t store_len, uint32_t *queue, size_t queue_len,
     uint32_t to, uint8_t level, uint16_t address, uint8_t *out, size_t out_len, uint64_t *answer, size_t answer_len);
+
+/* How many octets a level would give back of all that waits: the total kept for it, whatever waits.
+ * Lent: the queue, exactly 70 numbers; level, 0 to 3.
+ * Back: answer[0] the octets; of level 0 none.
+ * Refusals: 16 (answer), 14 where queue_len is not 70, a length in any slot is above 255, COUNT is above 32,
+ *   FIRST above 31, HEAD above 16,384 (no store is lent: the longest stands for it) or a total above 1,536,
+ *   10.
+ * Untouched: queue. */
+uint8_t pelgrant_queue_freed(const uint32_t *queue, size_t queue_len, uint8_t level,
+    uint64_t *answer, size_t answer_len);
 
 #ifdef __cplusplus
 }

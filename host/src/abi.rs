@@ -141,4 +141,5 @@ calls! {
     "pelgrant_queue_take" queue_take(
         store: &[u8], queue: &mut [u32], to: u32, level: u8, address: u16, out: &mut [u8], answer: &mut [u64],
     );
+    "pelgrant_queue_freed" queue_freed(queue: &[u32], level: u8, answer: &mut [u64],);
 }

@@ -5,7 +5,7 @@
 use std::ops::RangeInclusive;
 
 pub const SAMPLES: usize = 128;
-const BLOCK: usize = 16;
+pub(crate) const BLOCK: usize = 16;
 const HEADER: usize = 8;
 const CHECK: usize = 2;
 
@@ -20,7 +20,7 @@ const PROTOCOL: u8 = 68;
 const MORE: u8 = 0x80;
 
 const STAMP_MAX: u8 = 200;
-const LEVEL_MAX: u8 = 3;
+pub(crate) const LEVEL_MAX: u8 = 3;
 pub(crate) const FOUR_BITS: u8 = 15;
 const BUILD_OUT_MAX: u8 = 199;
 pub(crate) const CLOCK_MAX: u64 = 1 << 62;

@@ -338,6 +338,13 @@ impl Calls for Document {
         let sent_on = queue::take(store, queue, to, level, address, out);
         answered(sent_on.map(|length| [length as u64]), answer)
     }
+
+    fn queue_freed(&self, queue: &[u32], level: u8, answer: &mut [u64]) -> u8 {
+        if answer.is_empty() {
+            return SHORT;
+        }
+        answered(queue::freed(queue, level).map(|octets| [octets.into()]), answer)
+    }
 }
 
 #[cfg(test)]
@@ -497,7 +504,7 @@ mod tests {
     }
     #[test]
     fn queues_in_numbers() {
-        for length in [0, 66, 68] {
+        for length in [0, 67, 69, 71] {
             let mut queue = vec![77; length];
             assert_eq!((Document.queue_fresh(&mut queue), queue), (14, vec![77; length]));
         }
@@ -524,5 +531,21 @@ mod tests {
         assert_eq!(take(&mut queue, 0, 10), (0, [10, UNUSED], Some(15)));
         assert_eq!(take(&mut queue, 4, 0), (26, [0, UNUSED], None));
         assert_eq!(Document.queue_take(&store, &mut [], 0, 4, 0, &mut [], &mut []), 16);
+
+        let (mut store, mut voice) = ([0; 90], [0; 90]);
+        let packet = Packet { step: Step::Start, coding: 21, noise: 3, samples: &[0; SAMPLES] };
+        document::send(&mut 0, &packet, 0, &departure, &mut voice).unwrap();
+        let freed = |queue: &[u32], level| {
+            let mut answer = [UNUSED; 2];
+            (Document.queue_freed(queue, level, &mut answer), answer)
+        };
+        assert_eq!(freed(&queue, 3), (0, [0, UNUSED]));
+        assert_eq!(Document.queue_fresh(&mut queue), 0);
+        assert_eq!(Document.queue_enter(&mut store, &mut queue, &voice, 100), 0);
+        assert_eq!([0, 1, 2, 3].map(|level| freed(&queue, level)), [0, 16, 32, 48].map(|octets| (0, [octets, UNUSED])));
+        assert_eq!([4, 255].map(|level| freed(&queue, level)), [(10, [0, UNUSED]); 2]);
+        assert_eq!(freed(&queue[1..], 4), (14, [0, UNUSED]));
+        assert_eq!(freed(&[77; QUEUE], 4), (14, [0, UNUSED]));
+        assert_eq!(Document.queue_freed(&[], 4, &mut []), 16);
     }
 }

@@ -51,4 +51,5 @@ pub trait Calls {
     fn queue_take(
         &self, store: &[u8], queue: &mut [u32], to: u32, level: u8, address: u16, out: &mut [u8], answer: &mut [u64],
     ) -> u8;
+    fn queue_freed(&self, queue: &[u32], level: u8, answer: &mut [u64]) -> u8;
 }

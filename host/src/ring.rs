@@ -2,10 +2,12 @@
 //! library against. Nothing is moved or allocated. The list of `queue` says what is right, and the ring is
 //! tried against it before it is timed.
 
-use crate::document::Refusal::{self, Buffer, NoRoom, NothingWaits, Record};
-use crate::document::{self, refuse_if, Departure, Packet, Step, SAMPLES};
+use crate::document::Refusal::{self, Buffer, Level, NoRoom, NothingWaits, Record};
+use crate::document::{self, refuse_if, Departure, Packet, Step, BLOCK, LEVEL_MAX, SAMPLES};
 use crate::flat::Document;
-use crate::queue::{CLOCKS, COUNT, FIRST, FRAMES, HEAD, LENGTHS, LENGTH_MAX, QUEUE, STORE_MAX};
+use crate::queue::{
+    CLOCKS, COUNT, FIRST, FRAMES, HEAD, LENGTHS, LENGTH_MAX, LEVELS, QUEUE, STORE_MAX, TOTALS, TOTAL_MAX,
+};
 use crate::random::Random;
 use crate::Calls;
 
@@ -22,15 +24,29 @@ struct Layout {
 impl Layout {
     fn judged(store: &[u8], queue: &[u32]) -> Result<Layout, Refusal> {
         refuse_if(store.len() > STORE_MAX, Record)?;
-        let queue: &[u32; QUEUE] = queue.try_into().map_err(|_| Record)?;
+        let queue = judged_alone(store.len(), queue)?;
         let [head, first, count] = [HEAD, FIRST, COUNT].map(|field| queue[field] as usize);
-        let lengths = &queue[LENGTHS..CLOCKS];
-        let bits_of_all = lengths.iter().fold(0, |bits, length| bits | length);
-        let fits = bits_of_all <= LENGTH_MAX && head <= store.len() && first < FRAMES && count <= FRAMES;
-        refuse_if(!fits, Record)?;
-        let held = (first..first + count).map(|slot| lengths[slot % FRAMES] as usize).sum();
+        let held = (first..first + count).map(|slot| queue[LENGTHS + slot % FRAMES] as usize).sum();
         refuse_if(held > store.len(), Record)?;
         Ok(Layout { head, first, count, held })
+    }
+}
+
+/// Each number of a record by itself, for a store of so many octets. In the longest no lengths are together too many.
+fn judged_alone(octets: usize, queue: &[u32]) -> Result<&[u32; QUEUE], Refusal> {
+    let queue: &[u32; QUEUE] = queue.try_into().map_err(|_| Record)?;
+    let [head, first, count] = [HEAD, FIRST, COUNT].map(|field| queue[field] as usize);
+    let bits_of_lengths = queue[LENGTHS..CLOCKS].iter().fold(0, |bits, length| bits | length);
+    let totals_fit = queue[TOTALS..].iter().all(|total| *total <= TOTAL_MAX);
+    let fits = bits_of_lengths <= LENGTH_MAX && head <= octets && first < FRAMES && count <= FRAMES && totals_fit;
+    refuse_if(!fits, Record)?;
+    Ok(queue)
+}
+
+/// Moves the total of each level by what it gives back of a frame from which so many blocks may be dropped.
+fn move_totals(queue: &mut [u32], left: u8, moved: impl Fn(u32, u32) -> u32) {
+    for (level, total) in (1..).zip(&mut queue[TOTALS..]) {
+        *total = moved(*total, BLOCK as u32 * u32::from(left.min(level)));
     }
 }
 
@@ -45,7 +61,7 @@ fn place(store: &[u8], at: usize) -> usize {
 
 fn enter(store: &mut [u8], queue: &mut [u32], frame: &[u8], clock: u32) -> Result<(), Refusal> {
     let Layout { head, first, count, held } = Layout::judged(store, queue)?;
-    document::taken(frame)?;
+    let left = document::taken(frame)?.left;
     refuse_if(count == FRAMES || frame.len() > store.len() - held, NoRoom)?;
 
     let at = place(store, head + held);
@@ -56,6 +72,7 @@ fn enter(store: &mut [u8], queue: &mut [u32], frame: &[u8], clock: u32) -> Resul
     queue[COUNT] += 1;
     queue[LENGTHS + slot] = frame.len() as u32;
     queue[CLOCKS + slot] = clock;
+    move_totals(queue, left, |total, octets| total + octets);
     Ok(())
 }
 
@@ -85,7 +102,15 @@ fn take(store: &[u8], queue: &mut [u32], to: u32, level: u8, address: u16, out: 
     queue[HEAD] = place(store, head + length) as u32;
     queue[FIRST] = ((first + 1) % FRAMES) as u32;
     queue[COUNT] -= 1;
+    // C of a frame that the node took; of signalling it is 0.
+    move_totals(queue, frame[4] & 3, u32::saturating_sub);
     Ok(sent_on)
+}
+
+fn freed(queue: &[u32], level: u8) -> Result<u32, Refusal> {
+    let queue = judged_alone(STORE_MAX, queue)?;
+    refuse_if(level > LEVEL_MAX, Level)?;
+    Ok(if level == 0 { 0 } else { queue[TOTALS - 1 + usize::from(level)] })
 }
 
 impl Ring {
@@ -102,6 +127,13 @@ impl Ring {
         *answer = sent_on.unwrap_or(0) as u64;
         sent_on.map_or_else(|refusal| refusal as u8, |_| 0)
     }
+
+    pub fn queue_freed(&self, queue: &[u32], level: u8, answer: &mut [u64]) -> u8 {
+        let Some(answer) = answer.first_mut() else { return Buffer as u8 };
+        let freed = freed(queue, level);
+        *answer = freed.unwrap_or(0).into();
+        freed.map_or_else(|refusal| refusal as u8, |_| 0)
+    }
 }
 
 // ---- The trial ----
@@ -115,14 +147,14 @@ pub fn try_against_the_list() {
     }
 }
 
-/// Of several lengths; the last two are refused.
+/// Of several lengths, and with every number of blocks that may be dropped; the last two are refused.
 fn frames() -> Vec<Vec<u8>> {
     let departure = Departure { from: 0, to: 7, address: 128 };
-    let mut frames: Vec<Vec<u8>> = [0, 1, 21, 24]
-        .map(|coding| {
+    let mut frames: Vec<Vec<u8>> = [(0, 0), (1, 0), (21, 0), (21, 2), (24, 0)]
+        .map(|(coding, level)| {
             let (mut out, samples) = (vec![0; 138], [1; SAMPLES]);
             let packet = Packet { step: Step::Start, coding, noise: 3, samples: &samples };
-            let length = document::send(&mut 0, &packet, 0, &departure, &mut out).unwrap();
+            let length = document::send(&mut 0, &packet, level, &departure, &mut out).unwrap();
             out.truncate(length);
             out
         })
@@ -138,17 +170,32 @@ fn frames() -> Vec<Vec<u8>> {
 fn try_sequence(random: &mut Random, octets: usize, overwriting: bool) {
     let (frames, mut store, mut queue) = (frames(), random.octets(octets), [0; QUEUE]);
     for _ in 0..2000 {
+        let total = TOTALS + random.size_below(LEVELS);
         if overwriting && random.one_in(6) {
-            let limit = random.pick(&[0, 1, 31, 32, 33, 138, 255, 256, octets as u32, octets as u32 + 1, u32::MAX]);
+            let end = octets as u32;
+            let (small, great) =
+                ([0, 1, 31, 32, 33, 138, 255, 256], [1536, 1537, 16_384, 16_385, end, end + 1, u32::MAX]);
+            let limit = if random.one_in(2) { random.pick(&small) } else { random.pick(&great) };
             let (any, first_length) = (random.size_below(QUEUE), LENGTHS + queue[FIRST] as usize % FRAMES);
-            queue[random.pick(&[HEAD, FIRST, COUNT, first_length, any])] = limit;
+            queue[random.pick(&[HEAD, FIRST, COUNT, first_length, total, any])] = limit;
+        }
+        if overwriting && random.one_in(3) {
+            // Too low for what waits, or so high that an entry passes 1,536.
+            queue[total] = random.pick(&[0, 5, 20, 40, 1500]);
         }
         if overwriting && random.one_in(20) {
             queue.fill(0);
         }
         let (right_store, right_queue) = (&mut store.clone(), &mut queue.clone());
         let clock = random.number() as u32;
-        if random.one_in(2) {
+        if random.one_in(6) {
+            let level = random.pick(&[0, 1, 2, 3, 4, 255]);
+            let mut answer = vec![9; random.pick(&[0, 1, 1, 2])];
+            let right_answer = &mut answer.clone();
+            let right = Document.queue_freed(&queue, level, right_answer);
+            let number = Ring.queue_freed(&queue, level, &mut answer);
+            assert_eq!((number, &answer), (right, &*right_answer), "level {level} of {right_queue:?}");
+        } else if random.one_in(2) {
             let frame = frames[random.size_below(frames.len())].clone();
             let right = Document.queue_enter(right_store, right_queue, &frame, clock);
             assert_eq!(Ring.queue_enter(&mut store, &mut queue, &frame, clock), right, "{frame:?} in {right_queue:?}");

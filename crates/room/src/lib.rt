@@ -1,4 +1,4 @@
-// The waiting room by the numbers of its record: what is refused, and what comes and goes.
+// The waiting room by the numbers of its record: what is refused, what comes and goes, and what a level would give back.
 ghost use mathlib.Core.Path.{_≡_};
 ghost use mathlib.Core.Bool.{_||_};
 ghost use mathlib.Core.List.{[]};
@@ -32,7 +32,7 @@ pub struct Held {
     pub used: u32,
 }
 
-// 14, but for the lengths. `judge` and `freed_by` have three totals.
+// 14, but for the lengths. `judge` and `freed_by` are lent three totals.
 fn amiss(n: usize, head: u32, first: u32, count: u32, totals: &[u32]) -> bool
     requires { ⌜ length (now totals) ≡ 3 ⌝ }
     ensures { λ r. ⌜ r ≡ (misplaced n (bare head first count [] (now (totals .entry))) || overfull (bare head first count [] (now (totals .entry)))) ⌝ }
@@ -238,8 +238,8 @@ pub struct GivenBack {
     pub octets: u32,
 }
 
-// A question by the record's numbers: no lengths of 32 octets each reach past the longest store. `queue::freed` and the exported form
-// have three totals.
+// A question by the record's numbers. No 32 lengths reach past the longest store, each an octet, so they are not asked for. `queue::freed` and the
+// exported form have three totals.
 pub fn freed_by(head: u32, first: u32, count: u32, totals: &[u32], level: u8) -> GivenBack
     requires { ⌜ length (now totals) ≡ 3 ⌝ }
     ensures { λ r. ⌜ r ≡ freedAnswer (bare head first count [] (now (totals .entry))) level ⌝ }

@@ -29,7 +29,7 @@ fn fewer(total: u32, octets: u32) -> u32
     if total < octets { 0 } else { left }
 }
 
-// Whether a total is above 1,536. `room` has three of them.
+// Whether a total is above 1,536. `room` lends three.
 pub fn overfull(totals: &[u32]) -> bool
     requires { ⌜ length (now totals) ≡ 3 ⌝ }
     ensures { λ r. ⌜ r ≡ anyAbove 1536 (now (totals .entry)) ⌝ }
@@ -37,7 +37,7 @@ pub fn overfull(totals: &[u32]) -> bool
     (1536 < totals[0]) | (1536 < totals[1]) | (1536 < totals[2])
 }
 
-// The total of a level. `room` has three of them, and has judged the level.
+// The total of a level. `room` lends three, and has judged the level.
 pub fn total_of(totals: &[u32], level: usize) -> u32
     requires { ⌜ (length (now totals) ≡ 3) × (level ≤ 3) ⌝ }
     ensures { λ r. ⌜ r ≡ total (now (totals .entry)) level ⌝ }
@@ -48,7 +48,7 @@ pub fn total_of(totals: &[u32], level: usize) -> u32
     totals[level - 1]
 }
 
-// With a frame more that has so many blocks to drop. `room` has judged the totals.
+// The totals with a frame more, which has so many blocks to drop. `queue::enter` and the exported form call it once `room` has judged the three.
 pub fn raise(totals: &mut [u32], blocks: usize)
     requires { ⌜ Totalled (now totals) × (blocks < 4) ⌝ }
     ensures { λ _. ⌜ ((f : List ℕ) → blocks ≡ droppable f → now (totals .exit) ≡ raised f (now (totals .entry))) ⌝ }
@@ -61,7 +61,7 @@ pub fn raise(totals: &mut [u32], blocks: usize)
     totals[2] = three;
 }
 
-// With one frame less.
+// The totals with a frame less. `queue::take` and the exported form call it with three, and with the blocks that `room` found.
 pub fn lower(totals: &mut [u32], blocks: usize)
     requires { ⌜ (length (now totals) ≡ 3) × (blocks < 4) ⌝ }
     ensures { λ _. ⌜ ((f : List ℕ) → blocks ≡ droppable f → now (totals .exit) ≡ lowered f (now (totals .entry))) ⌝ }

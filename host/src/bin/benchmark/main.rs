@@ -1,6 +1,7 @@
 //! Times every call of the proved library beside the independent Rust, in one run, and prints
 //! Markdown tables. Buffers and records are made once for each measurement and used again, not
-//! cleared between calls; of a waiting room's record three numbers are put back.
+//! cleared between calls; of a waiting room's record the three numbers that say what waits and the three
+//! totals are put back, so that no measurement drifts into 14.
 //!
 //! The comparison is fair: both are called through the same C boundary, which nothing is inlined
 //! across, and whatever is lent to them is hidden from the compiler in the same way.
@@ -12,7 +13,7 @@ use pelgrant_host::abi::{Card, Plain};
 use pelgrant_host::document::check_sequence;
 use pelgrant_host::flat::Document;
 use pelgrant_host::foreign::{NAMES, STACKS};
-use pelgrant_host::queue::STORE_MAX;
+use pelgrant_host::queue::{STORE_MAX, TOTAL_MAX};
 use pelgrant_host::random::Random;
 use pelgrant_host::ring;
 use pelgrant_host::yardstick::Yardstick;
@@ -26,6 +27,7 @@ const SHORTEST: usize = 10;
 const LONGEST: usize = 490;
 const TYPE_S8: u8 = 0;
 const TYPE_21: u8 = 21;
+const TYPE_24: u8 = 24;
 /// How often the Rust's time a call may take: one that is done, one of those that work on every
 /// sample, and one that is refused.
 const DONE_MARK: f64 = 1.0;
@@ -33,8 +35,9 @@ const SAMPLES_MARK: f64 = 0.75;
 const REFUSED_MARK: f64 = 1.25;
 /// How often its own shortest time a call of a waiting room may take, however many wait.
 const WAITING_MARK: f64 = 1.25;
-/// How many others wait in those measurements.
+/// How many others wait in those measurements, and how many wait where a question is asked.
 const OTHERS: [usize; 4] = [0, 1, 16, 31];
+const WAITING: [usize; 2] = [0, 32];
 /// How much longer than itself the same thing may seem to take.
 const NOISE: f64 = 1.05;
 
@@ -345,10 +348,18 @@ impl Refused {
         }
         let check = || queue_take(Card, 4, &Room::of(&wrong_check_of(voice), 31, STORE_MAX), LONGEST);
         for (number, what, room, octets) in [
-            (26, "none, nothing waits", Room::of(voice, 0, STORE_MAX), LONGEST),
-            (16, "voice, 31 wait, out too short", many, voice.len() - 1),
+            (26, "none, nothing waits", &Room::of(voice, 0, STORE_MAX), LONGEST),
+            (16, "voice, 31 wait, out too short", &many, voice.len() - 1),
         ] {
-            self.row(number, "queue_take", what, voice, both!(queue_take, number, &room, octets), check());
+            self.row(number, "queue_take", what, voice, both!(queue_take, number, room, octets), check());
+        }
+        let past = many.clone().with_totals([0, 0, TOTAL_MAX + 1]);
+        for (number, what, room, level) in
+            [(14, "none, 31 wait, a total of 1,537", &past, 3), (10, "none, 31 wait, level 4", &many, 4)]
+        {
+            // No frame comes, so the check is that of one that waits.
+            let check = link(Card, 4, &wrong_check_of(voice));
+            self.row(number, "queue_freed", what, voice, both!(queue_freed, number, room, level), check);
         }
     }
 }
@@ -456,26 +467,34 @@ struct WaitingRooms {
 
 impl WaitingRooms {
     fn table(&mut self) {
-        let frame = voice(TYPE_S8);
+        let frame = voice(TYPE_24);
         let room = |waiting| Room::of(&frame, waiting, STORE_MAX);
-        println!("| Call | Others waiting | Card, ns | Rust, ns | Ratio |");
-        println!("|---|---:|---:|---:|---:|");
         let entering = OTHERS.map(|others| both!(queue_enter, 0, &room(others), &frame));
-        let entering = self.rows("queue_enter", entering);
         let taking = OTHERS.map(|others| both!(queue_take, 0, &room(others + 1), frame.len()));
-        let taking = self.rows("queue_take", taking);
-        println!("\n{entering}\n{taking}");
+        let asking = WAITING.map(|waiting| both!(queue_freed, 0, &room(waiting), 3));
+        WaitingRooms::head("Others waiting");
+        let entering = self.rows("queue_enter", &OTHERS, "others waiting", entering.into());
+        let taking = self.rows("queue_take", &OTHERS, "others waiting", taking.into());
+        println!();
+        WaitingRooms::head("Waiting");
+        let asking = self.rows("queue_freed", &WAITING, "waiting", asking.into());
+        println!("\n{entering}\n{taking}\n{asking}");
+    }
+
+    fn head(waiting: &str) {
+        println!("| Call | {waiting} | Card, ns | Rust, ns | Ratio |");
+        println!("|---|---:|---:|---:|---:|");
     }
 
     /// Prints the rows of a call and gives the longest over the shortest: all are measured in turn, so that they can
     /// be held against each other.
-    fn rows(&mut self, call: &str, works: [[Work; 2]; OTHERS.len()]) -> String {
+    fn rows(&mut self, call: &str, counts: &[usize], counted: &str, works: Vec<[Work; 2]>) -> String {
         let times = best_of(works.into_iter().flatten().collect());
-        for (others, times) in OTHERS.iter().zip(times.chunks_exact(2)) {
+        for (count, times) in counts.iter().zip(times.chunks_exact(2)) {
             let (card, rust) = (times[0], times[1]);
-            println!("| {call} | {others} | {card:.1} | {rust:.1} | {:.2} |", ratio(card, rust));
+            println!("| {call} | {count} | {card:.1} | {rust:.1} | {:.2} |", ratio(card, rust));
             if ratio(card, rust) > DONE_MARK {
-                self.above.push(above(&format!("{call}, {others} others waiting"), card, rust));
+                self.above.push(above(&format!("{call}, {count} {counted}"), card, rust));
             }
         }
         let [card, rust] = [0, 1].map(|side| {
@@ -547,7 +566,8 @@ fn main() {
     println!(
         "One check over the frame's own octets, 8 to 488 of them, is the card's call on a signalling frame of as \
          many octets whose check is wrong: by link, which judges nothing after it, and by the call of the row, \
-         which writes the zeros of its answer too; for send, to which no frame comes, by link again. A voice \
+         which writes the zeros of its answer too; for send and queue_freed, to which no frame comes, by link again, \
+         of as many octets as the frame that would be written or that waits. A voice \
          frame's own check covers 8 octets only, and it is held against one over all of its octets. What may \
          seem longer by noise: {:.0} parts in a hundred.\n",
         100.0 * (NOISE - 1.0)
@@ -577,13 +597,14 @@ fn main() {
     lines.table();
     println!("\n## Waiting room\n");
     println!(
-        "A voice frame of {} octets enters a store of {STORE_MAX} in which so many others wait, each as long, or is \
-         taken from before them. The Rust is a plain ring in the same store and record: it judges all that the card \
-         does, and is tried against the plain list before it is timed. Before each call HEAD, FIRST and COUNT are put \
-         back, so that always as many wait; that is within every time here and in the refused rows of these two \
-         calls, on both sides alike. All rows of a call are measured in turn, so that they can be held against each \
-         other.\n",
-        voice(TYPE_S8).len()
+        "A voice frame of {} octets, from which two blocks may be dropped, enters a store of {STORE_MAX} in which so \
+         many others wait, each as long, or is taken from before them. The Rust is a plain ring in the same store and \
+         record: it judges all that the card does, keeps the same totals, and is tried against the plain list before \
+         it is timed. Before each of these two calls HEAD, FIRST, COUNT and the totals are put back, so that always as \
+         many wait; that is within all their times, here and in the refused rows, on both sides alike. A question, of \
+         level 3, changes nothing, and nothing is put back for it. All rows of a call are measured in turn, so that \
+         they can be held against each other.\n",
+        voice(TYPE_24).len()
     );
     let mut waiting_rooms = WaitingRooms::default();
     waiting_rooms.table();

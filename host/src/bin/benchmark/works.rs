@@ -5,7 +5,7 @@
 use crate::timing::{repeated, Work};
 use pelgrant_host::document::{Coding, SAMPLES};
 use pelgrant_host::foreign::Stack;
-use pelgrant_host::queue::{CLOCKS, COUNT, LENGTHS, QUEUE};
+use pelgrant_host::queue::{given_back, CLOCKS, COUNT, LENGTHS, LEVELS, QUEUE, TOTALS};
 use pelgrant_host::yardstick::Yardstick;
 use pelgrant_host::Calls;
 
@@ -133,7 +133,7 @@ pub fn watch_tell<C: Calls + 'static>(calls: C, number: u8, watch: [u64; 9], eve
     })
 }
 
-// ---- Waiting rooms: before each call the record's first three numbers are put back, so that as many wait ----
+// ---- Waiting rooms: before each call that changes a record six numbers are put back, so that as many wait ----
 
 /// A store with its record.
 #[derive(Clone)]
@@ -150,28 +150,54 @@ impl Room {
         queue[COUNT] = waiting as u32;
         queue[LENGTHS..][..waiting].fill(frame.len() as u32);
         queue[CLOCKS..][..waiting].fill(HOP.from);
-        Room { store, queue }
+        let totals = [1, 2, 3].map(|level| waiting as u32 * given_back(frame, level));
+        Room { store, queue }.with_totals(totals)
     }
 
-    /// HEAD, FIRST and COUNT, the only numbers by which a call changes what waits.
-    fn first_three(&self) -> [u32; LENGTHS] {
-        self.queue[..LENGTHS].try_into().unwrap()
+    pub fn with_totals(mut self, totals: [u32; LEVELS]) -> Room {
+        self.queue[TOTALS..].copy_from_slice(&totals);
+        self
+    }
+
+    fn kept(&self) -> Kept {
+        let (first_three, totals) = (&self.queue[..LENGTHS], &self.queue[TOTALS..]);
+        Kept { first_three: first_three.try_into().unwrap(), totals: totals.try_into().unwrap() }
+    }
+}
+
+/// HEAD, FIRST, COUNT and the totals, the only numbers by which a call changes what waits and what it gives back. A
+/// total that went on growing would soon be 14.
+struct Kept {
+    first_three: [u32; LENGTHS],
+    totals: [u32; LEVELS],
+}
+
+impl Kept {
+    fn put_back(&self, queue: &mut [u32]) {
+        queue[..LENGTHS].copy_from_slice(&self.first_three);
+        queue[TOTALS..].copy_from_slice(&self.totals);
     }
 }
 
 pub fn queue_enter<C: Calls + 'static>(calls: C, number: u8, room: &Room, frame: &[u8]) -> Work {
-    let lent = (room.clone(), room.first_three(), frame.to_vec(), HOP.to);
-    repeated(number, lent, move |(Room { store, queue }, first_three, frame, clock)| {
-        queue[..LENGTHS].copy_from_slice(first_three);
+    let lent = (room.clone(), room.kept(), frame.to_vec(), HOP.to);
+    repeated(number, lent, move |(Room { store, queue }, kept, frame, clock)| {
+        kept.put_back(queue);
         calls.queue_enter(store, queue, frame, *clock)
     })
 }
 
 pub fn queue_take<C: Calls + 'static>(calls: C, number: u8, room: &Room, octets: usize) -> Work {
-    let lent = (room.clone(), room.first_three(), HOP, vec![0; octets], vec![0]);
-    repeated(number, lent, move |(Room { store, queue }, first_three, hop, out, answer)| {
-        queue[..LENGTHS].copy_from_slice(first_three);
+    let lent = (room.clone(), room.kept(), HOP, vec![0; octets], vec![0]);
+    repeated(number, lent, move |(Room { store, queue }, kept, hop, out, answer)| {
+        kept.put_back(queue);
         calls.queue_take(store, queue, hop.to, hop.level, hop.address, out, answer)
+    })
+}
+
+pub fn queue_freed<C: Calls + 'static>(calls: C, number: u8, room: &Room, level: u8) -> Work {
+    repeated(number, (room.queue.clone(), level, vec![0]), move |(queue, level, answer)| {
+        calls.queue_freed(queue, *level, answer)
     })
 }
 

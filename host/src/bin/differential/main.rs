@@ -24,7 +24,7 @@ use lines::Reading;
 use pelgrant_host::abi::Card;
 use pelgrant_host::document::Coding;
 use pelgrant_host::flat::Document;
-use pelgrant_host::queue::{Room, QUEUE};
+use pelgrant_host::queue::{Room, QUEUE, TOTALS};
 use pelgrant_host::random::Random;
 use pelgrant_host::Calls;
 use queues::{Course, Step, WaitingRoom};
@@ -519,6 +519,7 @@ impl Run {
             Call::QueueFresh => self.queue_fresh(),
             Call::QueueEnter => self.queue_enter(),
             Call::QueueTake => self.queue_take(),
+            Call::QueueFreed => self.queue_freed(),
         }
     }
 
@@ -673,6 +674,17 @@ impl Run {
         self.single_step(flat(faults), &room, overwritten, &step);
     }
 
+    fn queue_freed(&mut self) {
+        let random = &mut self.random;
+        let faults = Faults::among(random, Call::QueueFreed.order());
+        let (overwriting, faults) = queues::overwriting(random, faults, 10);
+        let mut room = WaitingRoom::to_ask(random, faults);
+        let overwritten = if overwriting { room.overwrite(random) } else { None };
+        let level = inputs::up_to(random, 3, faults.has(10));
+        let step = Step::Ask { level, answer: self.answer(1, faults) };
+        self.single_step(flat(faults), &room, overwritten, &step);
+    }
+
     fn single_step(&mut self, flat: Option<usize>, room: &WaitingRoom, overwritten: Option<usize>, step: &Step) {
         let (number, _) = self.step(flat, room, step);
         if flat.is_none() {
@@ -683,20 +695,28 @@ impl Run {
     /// One call on a waiting room.
     fn step(&mut self, flat: Option<usize>, room: &WaitingRoom, step: &Step) -> (u8, Lent) {
         let random = &mut self.random;
-        let (store, queue) = (lent::octets(random, &room.store), lent::queue(random, &room.queue));
+        let queue = lent::queue(random, &room.queue);
         let (number, after) = match step {
             Step::Enter { frame, clock } => {
-                let lent = Lent { store, queue, frame: lent::octets(random, frame), ..Lent::default() };
+                let (store, frame) = (lent::octets(random, &room.store), lent::octets(random, frame));
+                let lent = Lent { store, queue, frame, ..Lent::default() };
                 self.compare(Call::QueueEnter, flat, &[(*clock).into()], lent, |calls, lent| {
                     calls.queue_enter(lent.store.part_mut(), lent.queue.part_mut(), lent.frame.part(), *clock)
                 })
             }
             &Step::Take { to, level, address, ref out, ref answer } => {
-                let lent = Lent { store, queue, out: out.clone(), answer: answer.clone(), ..Lent::default() };
+                let (store, out, answer) = (lent::octets(random, &room.store), out.clone(), answer.clone());
+                let lent = Lent { store, queue, out, answer, ..Lent::default() };
                 let numbers = [to.into(), level.into(), address.into()];
                 self.compare(Call::QueueTake, flat, &numbers, lent, |calls, Lent { store, queue, out, answer, .. }| {
                     let (queue, out, answer) = (queue.part_mut(), out.part_mut(), answer.part_mut());
                     calls.queue_take(store.part(), queue, to, level, address, out, answer)
+                })
+            }
+            &Step::Ask { level, ref answer } => {
+                let lent = Lent { queue, answer: answer.clone(), ..Lent::default() };
+                self.compare(Call::QueueFreed, flat, &[level.into()], lent, |calls, lent| {
+                    calls.queue_freed(lent.queue.part(), level, lent.answer.part_mut())
                 })
             }
         };
@@ -705,7 +725,8 @@ impl Run {
     }
 
     /// A long sequence of calls on one store from a fresh record on, each handed store and record as the last one
-    /// left them: the answers are those of a plain list that sees neither, and what waits is what it has.
+    /// left them: the answers are those of a plain list that sees neither, what waits is what it has, and the totals
+    /// are what it finds by a walk.
     fn wait_in_turn(&mut self, store: usize) {
         let octets = queues::STORES[store];
         let mut room = self.fresh_room(octets);
@@ -714,15 +735,15 @@ impl Run {
             let step = course.next(&mut self.random);
             let (waiting, listed) = (list.waiting.len(), step.listed(&mut list));
             let (number, after) = self.step(step.flat(), &room, &step);
-            room = WaitingRoom::left(&after);
-            self.queue_cases.met_in_turn(store, waiting, &step, number);
+            room = room.after(&step, &after);
+            self.queue_cases.met_in_turn(store, waiting, &step, number, after.answer.part());
             let answered = (number, after.out.part().to_vec(), after.answer.part().to_vec());
-            let held = Room::of(&room.store, &room.queue);
-            if answered != listed || held.as_ref() != Ok(&list) {
+            let (held, totals) = (Room::of(&room.store, &room.queue), &room.queue[TOTALS..]);
+            if answered != listed || held.as_ref() != Ok(&list) || totals != list.totals() {
                 self.differs(|| {
                     println!("different: a store of {octets} octets in a sequence, {step:?}");
-                    println!("  the list answers {listed:?}\n  and has {list:?}");
-                    println!("  the others answer {answered:?}\n  and have {held:?}");
+                    println!("  the list answers {listed:?}\n  and has {:?} of {list:?}", list.totals());
+                    println!("  the others answer {answered:?}\n  and have {totals:?} of {held:?}");
                 });
                 return;
             }
@@ -737,7 +758,7 @@ impl Run {
             room.disturb(&mut self.random);
             let step = course.next(&mut self.random);
             let (number, after) = self.step(step.flat(), &room, &step);
-            room = WaitingRoom::left(&after);
+            room = room.after(&step, &after);
             self.queue_cases.met_disturbed(store, &step, number);
         }
     }
@@ -903,7 +924,7 @@ fn main() -> ExitCode {
             Call::WatchTell => EVENTS * inputs,
             Call::LineAdd | Call::LineNext => inputs / LINES,
             Call::QueueFresh => inputs / FRESH_ROOMS,
-            Call::QueueEnter | Call::QueueTake => inputs / ROOMS,
+            Call::QueueEnter | Call::QueueTake | Call::QueueFreed => inputs / ROOMS,
             _ => inputs,
         };
         (0..times).for_each(|_| run.one_input(call));

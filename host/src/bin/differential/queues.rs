@@ -1,11 +1,14 @@
 //! What the calls of a waiting room are tried with: stores, records and frames that suit each other or just do
-//! not, records and stores that the host overwrote, and long sequences of calls. And which cases were met.
+//! not, records and stores that the host overwrote, and long sequences of calls, with questions what a level would
+//! give back. And which cases were met.
 
 use crate::inputs::{self, another, Draft, Faults, FLAT_14, FLAT_16};
 use crate::lent::{self, Guarded, Lent};
 use crate::table::{crossed, Table};
-use pelgrant_host::document::{Kind, Refusal};
-use pelgrant_host::queue::{Room, CLOCKS, COUNT, FIRST, FRAMES, HEAD, LENGTHS, LENGTH_MAX, QUEUE, STORE_MAX};
+use pelgrant_host::document::Refusal;
+use pelgrant_host::queue::{
+    Room, CLOCKS, COUNT, FIRST, FRAMES, HEAD, LENGTHS, LENGTH_MAX, LEVELS, QUEUE, STORE_MAX, TOTALS, TOTAL_MAX,
+};
 use pelgrant_host::random::Random;
 use std::cmp::Ordering;
 
@@ -17,13 +20,14 @@ pub const STORES: [usize; 10] = [0, 10, 137, 138, 320, 500, 2000, 4416, STORE_MA
 
 /// A record of another length.
 pub fn wrong_length(random: &mut Random) -> usize {
-    random.pick(&[0, 1, 3, 66, 68, 134])
+    random.pick(&[0, 1, 3, 67, 69, 71, 140])
 }
 
-/// Whether a number of a right record is to be overwritten; now and then that of a room which is full, or empty.
-pub fn overwriting(random: &mut Random, faults: Faults, full_or_empty: usize) -> (bool, Faults) {
+/// Whether a number of a right record is to be overwritten; now and then with a fault besides: a room which is full or
+/// empty, or a level that is none.
+pub fn overwriting(random: &mut Random, faults: Faults, besides: usize) -> (bool, Faults) {
     let overwriting = faults.none() && random.one_in(4);
-    (overwriting, if overwriting && random.one_in(4) { Faults::of(&[full_or_empty]) } else { faults })
+    (overwriting, if overwriting && random.one_in(4) { Faults::of(&[besides]) } else { faults })
 }
 
 // ---- Rooms ----
@@ -36,12 +40,17 @@ pub struct WaitingRoom {
 }
 
 impl WaitingRoom {
-    /// As a call left it.
-    pub fn left(lent: &Lent) -> WaitingRoom {
-        WaitingRoom { store: lent.store.part().to_vec(), queue: lent.queue.part().to_vec() }
+    /// As a call left it; a question is lent no store.
+    pub fn after(self, step: &Step, lent: &Lent) -> WaitingRoom {
+        let queue = lent.queue.part().to_vec();
+        match step {
+            Step::Ask { .. } => WaitingRoom { queue, ..self },
+            _ => WaitingRoom { store: lent.store.part().to_vec(), queue },
+        }
     }
 
-    /// Any octets, with frames of these lengths from a place and a slot on, and any numbers in the other slots.
+    /// Any octets, with frames of these lengths from a place and a slot on, any numbers in the other slots, and totals
+    /// that need not be those of the frames.
     fn of(random: &mut Random, octets: usize, head: usize, lengths: &[usize]) -> WaitingRoom {
         let any_slot = random.size_below(FRAMES);
         let first = random.pick(&[0, FRAMES - 1, (FRAMES - lengths.len()) % FRAMES, any_slot]);
@@ -51,6 +60,7 @@ impl WaitingRoom {
         for (slot, length) in (first..).zip(lengths) {
             queue[LENGTHS + slot % FRAMES] = *length as u32;
         }
+        queue[TOTALS..].fill_with(|| total_in_range(random));
         WaitingRoom { store: random.octets(octets), queue }
     }
 
@@ -95,9 +105,22 @@ impl WaitingRoom {
         if !lengths.is_empty() {
             let slot = room.queue[FIRST] as usize;
             room.queue[CLOCKS + slot] = from;
-            (head..).zip(frame).for_each(|(at, octet)| room.store[at % octets] = *octet);
+            room.lay(head, frame);
         }
         room.with(random, faults)
+    }
+
+    /// A room that can be asked about, unless that is to be stopped by 14. The longest store stands for the one that a
+    /// question is not lent.
+    pub fn to_ask(random: &mut Random, faults: Faults) -> WaitingRoom {
+        let length = random.pick(&FRAME_LENGTHS);
+        let lengths = waiting(random, length, FRAMES, false);
+        let head = place_of(random, STORE_MAX, length);
+        let mut room = WaitingRoom::of(random, STORE_MAX, head, &lengths);
+        if faults.has(14) {
+            room.pass_a_limit(random);
+        }
+        room.unfit(random, faults)
     }
 
     /// How many wait; of a record that 14 stops no more than there can be.
@@ -120,32 +143,56 @@ impl WaitingRoom {
         (self.queue[LENGTHS + slot] as usize, self.queue[CLOCKS + slot])
     }
 
-    /// Brought out of range where that is wanted, and of the flat form's 14 where a number fits no field or the record
-    /// has another length.
+    /// How far each number of `LIMITED` is past its limit, or before it, where HEAD may be as far as this. Of the
+    /// lengths the greatest counts.
+    fn past_limits(&self, end: usize) -> [i64; LIMITED.len()] {
+        let queue = &self.queue;
+        let longest = queue[LENGTHS..CLOCKS].iter().fold(0, |longest, length| longest.max(*length));
+        let past = |number: u32, limit: usize| i64::from(number) - limit as i64;
+        let past_total = |level| past(queue[TOTALS + level - 1], TOTAL_MAX as usize);
+        let (head, first) = (past(queue[HEAD], end), past(queue[FIRST], FRAMES - 1));
+        let (count, length) = (past(queue[COUNT], FRAMES), past(longest, LENGTH_MAX as usize));
+        [head, first, count, length, past_total(1), past_total(2), past_total(3)]
+    }
+
+    /// Blocks that may be dropped from the first that waits, where that is a frame.
+    fn first_left(&self) -> u8 {
+        self.store[(self.queue[HEAD] as usize + 4) % self.store.len()] & 3
+    }
+
+    /// Brought out of range where that is wanted, by the record or by the store.
     fn with(mut self, random: &mut Random, faults: Faults) -> WaitingRoom {
         if faults.has(14) {
-            let (octets, held) = (self.store.len(), self.held());
-            let past = |random: &mut Random, limit: usize| {
-                let any = (random.number() as u32).max(limit as u32);
-                random.pick(&[limit as u32 + 1, limit as u32 + 2, u32::MAX, any.saturating_add(1)])
-            };
-            match random.below(5) {
-                0 => self.queue[HEAD] = past(random, octets),
-                1 => self.queue[FIRST] = past(random, FRAMES - 1),
-                2 => self.queue[COUNT] = past(random, FRAMES),
+            let held = self.held();
+            match random.below(6) {
                 // The lengths together are more than the store by one octet, or by more.
-                3 if held > 0 => {
+                0 if held > 0 => {
                     let fewer = random.size_below(held);
                     self.store.truncate(random.pick(&[held - 1, held - 1, fewer]));
                     self.queue[HEAD] = self.queue[HEAD].min(self.store.len() as u32);
                 }
-                _ => {
+                0 | 1 => {
                     let longer = random.size_below(5000);
                     let octets = STORE_MAX + random.pick(&[1, 1, 2, 1 + longer]);
                     self.store.resize(octets, 0);
                 }
+                _ => self.pass_a_limit(random),
             }
         }
+        self.unfit(random, faults)
+    }
+
+    /// Brings one number of the record past its limit.
+    fn pass_a_limit(&mut self, random: &mut Random) {
+        let (octets, total) = (self.store.len() as u32, TOTALS + random.size_below(LEVELS));
+        let limits = [(HEAD, octets), (FIRST, FRAMES as u32 - 1), (COUNT, FRAMES as u32), (total, TOTAL_MAX)];
+        let (at, limit) = random.pick(&limits);
+        let any = (random.number() as u32).max(limit);
+        self.queue[at] = random.pick(&[limit + 1, limit + 2, u32::MAX, any.saturating_add(1)]);
+    }
+
+    /// Of the flat form's 14, where that is wanted: a number that fits no field, or a record of another length.
+    fn unfit(mut self, random: &mut Random, faults: Faults) -> WaitingRoom {
         if faults.has(FLAT_14) {
             if random.one_in(2) {
                 self.queue.resize(wrong_length(random), 0);
@@ -163,7 +210,8 @@ impl WaitingRoom {
     pub fn overwrite(&mut self, random: &mut Random) -> Option<usize> {
         let (octets, nth) = (self.store.len() as u32, random.size_below(FRAMES));
         let (slot, in_use) = ((self.queue[FIRST] as usize + nth) % FRAMES, nth < self.waiting());
-        let at = random.pick(&[HEAD, FIRST, COUNT, LENGTHS + slot, CLOCKS + slot]);
+        let total = TOTALS + random.size_below(LEVELS);
+        let at = random.pick(&[HEAD, FIRST, COUNT, LENGTHS + slot, CLOCKS + slot, total, total]);
         let (was, any, flipped) = (self.queue[at], random.number() as u32, 1 << random.below(32));
         let (field, likely) = match at {
             HEAD => (0, random.pick(&[0, octets.saturating_sub(1), octets, octets + 1, any % (octets + 1)])),
@@ -175,14 +223,19 @@ impl WaitingRoom {
                 let likely = random.pick(&[0, 9, 10, 138, 139, 255, 256, most, most.saturating_add(1), any % 256]);
                 (if in_use { 3 } else { 4 }, likely)
             }
-            _ => (if in_use { 5 } else { 6 }, any),
+            CLOCKS..TOTALS => (if in_use { 5 } else { 6 }, any),
+            total => {
+                let (lower, higher) = (was.saturating_sub(any % 64), was.saturating_add(any % 64));
+                let other = total_in_range(random);
+                (7 + total - TOTALS, random.pick(&[lower, higher, TOTAL_MAX, TOTAL_MAX + 1, other]))
+            }
         };
         self.queue[at] = random.pick(&[likely, likely, likely, likely, likely, was ^ flipped, any, u32::MAX]);
         (self.queue[at] != was).then_some(field)
     }
 
-    /// What a host may do between two calls: mostly nothing, or overwrite a number or an octet. A record that is out
-    /// of range is soon made afresh.
+    /// What a host may do between two calls: mostly nothing, or overwrite a number, an octet or a frame. A record that
+    /// is out of range is soon made afresh.
     pub fn disturb(&mut self, random: &mut Random) {
         let out_of_range = Room::of(&self.store, &self.queue).is_err();
         match random.below(48) {
@@ -193,8 +246,25 @@ impl WaitingRoom {
             }
             7 => self.queue.fill(0),
             8..=20 if out_of_range => self.queue.fill(0),
+            21..=23 if !out_of_range && self.waiting() > 0 => self.exchange_first(random),
             _ => {}
         }
+    }
+
+    /// Puts another frame of as many octets, if there can be one, where the first that waits lies: it may give back
+    /// more or less than what entered.
+    fn exchange_first(&mut self, random: &mut Random) {
+        let (length, _) = self.first();
+        if FRAME_LENGTHS.contains(&length) {
+            let other = another(random, |random| frame(random, Faults::NONE), |frame| frame.len() == length);
+            self.lay(self.queue[HEAD] as usize, &other);
+        }
+    }
+
+    /// A frame from a place of the store on, round its end where it reaches that.
+    fn lay(&mut self, head: usize, frame: &[u8]) {
+        let octets = self.store.len();
+        (head..).zip(frame).for_each(|(at, octet)| self.store[at % octets] = *octet);
     }
 }
 
@@ -217,6 +287,12 @@ fn total(lengths: &[usize]) -> usize {
     lengths.iter().sum()
 }
 
+/// What a level may give back: nothing, a few blocks, a few less than the most, or anything.
+fn total_in_range(random: &mut Random) -> u32 {
+    let (blocks, any) = (16 * random.below(5) as u32, random.below(u64::from(TOTAL_MAX) + 1) as u32);
+    random.pick(&[0, blocks, any % 48, TOTAL_MAX - blocks, TOTAL_MAX - any % 48, any])
+}
+
 /// The length of a store with room for so many octets: just so, one more, one of those of sequences, or any.
 fn store_for(random: &mut Random, octets: usize) -> usize {
     let (more, any, known) = (octets + random.size_below(200), random.size_below(2000), random.pick(&STORES));
@@ -234,13 +310,19 @@ pub fn waiting_frame(random: &mut Random, faults: Faults) -> Vec<u8> {
     another(random, |random| frame(random, faults), |frame| frame.len() <= LENGTH_MAX as usize)
 }
 
-/// A frame with those faults, as far as they are a frame's, or with any.
+/// A frame with those faults, as far as they are a frame's, or with any. From many of them blocks may be dropped.
 pub fn frame(random: &mut Random, faults: Faults) -> Vec<u8> {
-    let kind = if random.one_in(3) { Kind::Signalling } else { Kind::Voice };
-    match random.one_in(4) {
-        true => inputs::frame(random),
-        false => Draft::of(random, kind, faults).octets(random),
+    match random.below(8) {
+        0 | 1 => inputs::frame(random),
+        2 | 3 => Draft::signalling(random, faults).octets(random),
+        4 | 5 => Draft::voice(random, faults).octets(random),
+        _ => with_blocks(random, faults, 1),
     }
+}
+
+/// A voice frame with those faults from which at least so many blocks may be dropped.
+fn with_blocks(random: &mut Random, faults: Faults, least: u8) -> Vec<u8> {
+    another(random, |random| Draft::voice(random, faults), |draft| draft.head[4] & 3 >= least).octets(random)
 }
 
 // ---- Sequences ----
@@ -250,12 +332,14 @@ pub fn frame(random: &mut Random, faults: Faults) -> Vec<u8> {
 pub enum Step {
     Enter { frame: Vec<u8>, clock: u32 },
     Take { to: u32, level: u8, address: u16, out: Guarded<u8>, answer: Guarded<u64> },
+    Ask { level: u8, answer: Guarded<u64> },
 }
 
 impl Step {
     /// What it is refused by, whatever the room, since it lacks an answer slot.
     pub fn flat(&self) -> Option<usize> {
-        matches!(self, Step::Take { answer, .. } if answer.part().is_empty()).then_some(FLAT_16)
+        let lacks = matches!(self, Step::Take { answer, .. } | Step::Ask { answer, .. } if answer.part().is_empty());
+        lacks.then_some(FLAT_16)
     }
 
     /// What a plain list makes of it: the number, and buffer and answer after.
@@ -269,6 +353,13 @@ impl Step {
                 *length = taken.unwrap_or(0) as u64;
                 (number(taken), out, answer)
             }
+            Step::Ask { level, answer } => {
+                let mut answer = answer.part().to_vec();
+                let Some(octets) = answer.first_mut() else { return (16, vec![], answer) };
+                let freed = list.freed(*level);
+                *octets = freed.unwrap_or(0).into();
+                (number(freed), vec![], answer)
+            }
         }
     }
 }
@@ -278,13 +369,14 @@ fn number<T>(result: Result<T, Refusal>) -> u8 {
     result.map_or_else(|refusal| refusal as u8, |_| 0)
 }
 
-/// How a sequence goes on: for a while most calls fill the room, then most empty it, with a clock that goes round.
+/// How a sequence goes on: for a while most calls fill the room, then most empty it, with a clock that goes round and
+/// with questions in between.
 pub struct Course {
     clock: u32,
     calls_left: u64,
     /// Of ten calls so many enter a frame.
     entering: u64,
-    /// The frames of this while: the shortest alone, the longest alone, or any.
+    /// The frames of this while: the shortest alone, the longest alone, those that give back most alone, or any.
     frames: u64,
 }
 
@@ -295,14 +387,19 @@ impl Course {
 
     pub fn next(&mut self, random: &mut Random) -> Step {
         if self.calls_left == 0 {
-            self.calls_left = 20 + random.below(150);
             self.entering = random.pick(&[1, 3, 5, 7, 9, 10]);
-            self.frames = random.below(3);
+            self.frames = random.below(4);
+            // Of the two kinds that are alone for longer 32 can come to wait, and no others.
+            let longer = if matches!(self.frames, 0 | 2) { 100 } else { 0 };
+            self.calls_left = 20 + random.below(150) + longer;
         }
         self.calls_left -= 1;
         let (soon, later) = (random.below(8) as u32, random.below(120) as u32);
         let passed = if random.one_in(300) { random.pick(&[1 << 30, 1 << 31]) } else { random.pick(&[0, soon, later]) };
         self.clock = self.clock.wrapping_add(passed);
+        if random.one_in(8) {
+            return ask(random);
+        }
         match random.below(10) < self.entering {
             true => Step::Enter { frame: self.frame(random), clock: self.clock },
             false => self.take(random),
@@ -310,14 +407,16 @@ impl Course {
     }
 
     fn frame(&self, random: &mut Random) -> Vec<u8> {
-        if random.one_in(12) {
+        if random.one_in(40) {
             return inputs::frame(random);
         }
-        let draw = |random: &mut Random| match self.frames {
+        let right = |random: &mut Random| frame(random, Faults::NONE);
+        match self.frames {
             0 => Draft::signalling(random, Faults::NONE).octets(random),
-            _ => frame(random, Faults::NONE),
-        };
-        another(random, draw, |frame| self.frames != 1 || frame.len() == 138)
+            1 => another(random, right, |frame| frame.len() == 138),
+            2 => with_blocks(random, Faults::NONE, 3),
+            _ => right(random),
+        }
     }
 
     /// Most of these calls take a frame that waits; some are refused for what they are lent.
@@ -337,32 +436,58 @@ impl Course {
     }
 }
 
+/// Of every level, and now and then of one that is none.
+fn ask(random: &mut Random) -> Step {
+    let (any, slots) = (random.octet(), random.pick(&[1, 1, 1, 1, 2, 0]));
+    Step::Ask { level: random.pick(&[0, 1, 2, 3, 1, 2, 3, 4, any]), answer: lent::slots(random, slots) }
+}
+
 // ---- Cases ----
 
 /// What the host may overwrite of a record.
-const FIELDS: [&str; 7] =
-    ["HEAD", "FIRST", "COUNT", "a length in use", "another length", "a reading in use", "another reading"];
-const CALLS: [&str; 2] = ["enter", "take"];
+const FIELDS: [&str; 10] = [
+    "HEAD",
+    "FIRST",
+    "COUNT",
+    "a length in use",
+    "another length",
+    "a reading in use",
+    "another reading",
+    "total of level 1",
+    "total of level 2",
+    "total of level 3",
+];
+/// What of a record has a limit.
+const LIMITED: [&str; 7] =
+    ["HEAD", "FIRST", "COUNT", "a length", "total of level 1", "total of level 2", "total of level 3"];
+/// What stands in the way of an answer to a question besides its level, one of `LIMITED` where that is alone.
+const IN_THE_WAY: [&str; 4] = ["nothing", "no room for it", "a record of another length", "several numbers"];
+const CALLS: [&str; 3] = ["enter", "take", "freed"];
+/// Those that are lent a store.
+const WITH_STORE: [&str; 2] = ["enter", "take"];
 const ANSWERS: [&str; 5] = ["done", "14", "25", "26", "another"];
-const COURSE: [&str; 8] = ["entered", "32 waiting", "octets", "frame's own", "left", "26", "waits on", "14"];
+const COURSE: [&str; 10] =
+    ["entered", "32 waiting", "octets", "frame's own", "left", "26", "waits on", "14", "answered", "10"];
 
 fn store_names() -> Vec<String> {
     STORES.iter().map(|octets| format!("{octets} octets")).collect()
 }
 
-/// A table of both calls by what a row has besides; `possible` says what can be answered there.
-fn by_answer(rows: &[&str], possible: impl Fn(usize, &str) -> bool) -> Table {
-    Table::new(crossed(&[&CALLS, rows]), crossed(&[&ANSWERS]), |row, column| match ANSWERS[column] {
-        "25" if CALLS[row / rows.len()] == "take" => false,
-        "26" if CALLS[row / rows.len()] == "enter" => false,
-        answer => possible(row % rows.len(), answer),
+/// A table of calls by what a row has besides; `possible` says what such a call can be answered there.
+fn by_answer(calls: &[&str], rows: &[&str], possible: impl Fn(&str, usize, &str) -> bool) -> Table {
+    Table::new(crossed(&[calls, rows]), crossed(&[&ANSWERS]), |row, column| {
+        match (calls[row / rows.len()], ANSWERS[column]) {
+            ("take" | "freed", "25") | ("enter" | "freed", "26") => false,
+            (call, answer) => possible(call, row % rows.len(), answer),
+        }
     })
 }
 
-fn by_store() -> Table {
+fn by_store(calls: &[&str]) -> Table {
     let names = store_names();
     let names: Vec<&str> = names.iter().map(String::as_str).collect();
-    by_answer(&names, |store, answer| match answer {
+    by_answer(calls, &names, |call, store, answer| match answer {
+        _ if call == "freed" => true,
         "14" => true,
         "done" => (10..=STORE_MAX).contains(&STORES[store]),
         _ => STORES[store] <= STORE_MAX,
@@ -371,10 +496,12 @@ fn by_store() -> Table {
 
 /// The row of such a table that has this besides, of so many that a call has.
 fn row(step: &Step, besides: usize, rows: usize) -> usize {
-    match step {
-        Step::Enter { .. } => besides,
-        Step::Take { .. } => rows + besides,
-    }
+    let call = match step {
+        Step::Enter { .. } => 0,
+        Step::Take { .. } => 1,
+        Step::Ask { .. } => 2,
+    };
+    call * rows + besides
 }
 
 /// The place of a number in `ANSWERS`.
@@ -392,9 +519,13 @@ pub struct Cases {
     entering: Table,
     lying: Table,
     waits: Table,
+    totals: Table,
+    limits: Table,
+    asked: Table,
     single: Table,
     overwritten: Table,
     in_turn: Table,
+    answered: Table,
     disturbed: Table,
 }
 
@@ -417,8 +548,23 @@ impl Cases {
                 crossed(&[&["0 ms", "1 to 200", "to 2^31 - 1", "2^31 and on"]]),
                 |row, column| (row, column) != (1, 0),
             ),
-            single: by_store(),
-            overwritten: by_answer(&FIELDS, |field, answer| match answer {
+            totals: Table::new(
+                crossed(&[&["entered", "left"], &["level 1", "level 2", "level 3"]]),
+                crossed(&[&["stays", "within", "just to it", "beyond"]]),
+                |_, _| true,
+            ),
+            limits: Table::new(
+                crossed(&[&CALLS, &LIMITED]),
+                crossed(&[&["at its limit", "one past it", "further past"]]),
+                |_, _| true,
+            ),
+            asked: Table::new(
+                crossed(&[&[&IN_THE_WAY[..], &LIMITED].concat()]),
+                crossed(&[&["level 0", "level 1", "level 2", "level 3", "4", "5 to 255"]]),
+                |_, _| true,
+            ),
+            single: by_store(&WITH_STORE),
+            overwritten: by_answer(&CALLS, &FIELDS, |_, field, answer| match answer {
                 "14" => !FIELDS[field].contains("reading"),
                 "26" => !FIELDS[field].contains("in use"),
                 _ => true,
@@ -427,6 +573,7 @@ impl Cases {
                 let octets = STORES[store];
                 match COURSE[column] {
                     "14" => octets > STORE_MAX,
+                    "answered" | "10" => true,
                     _ if octets > STORE_MAX => false,
                     "32 waiting" => octets >= 320,
                     "octets" => octets < 4416,
@@ -434,21 +581,34 @@ impl Cases {
                     _ => true,
                 }
             }),
-            disturbed: by_store(),
+            answered: Table::new(
+                crossed(&[&["level 0", "level 1", "level 2", "level 3", "above"]]),
+                crossed(&[&["no octets", "some", "the most", "10"]]),
+                |level, column| match level {
+                    0 => column == 0,
+                    1..=LEVELS => column < 3,
+                    _ => column == 3,
+                },
+            ),
+            disturbed: by_store(&CALLS),
         }
     }
 
-    /// Counts a frame that entered, had no room or was taken.
+    /// Counts a frame that entered, had no room or was taken, a question, and the limits that a record is at.
     pub fn met(&mut self, room: &WaitingRoom, step: &Step, number: u8) {
         match (step, number) {
-            (Step::Enter { frame, .. }, 0 | 25) => self.entered(room, frame.len(), number),
+            (Step::Enter { frame, .. }, 0 | 25) => self.entered(room, frame, number),
             (Step::Take { to, .. }, 0) => self.left(room, *to),
+            (Step::Ask { level, .. }, _) => self.asked(room, *level, step.flat().is_some()),
             _ => {}
+        }
+        if step.flat().is_none() && room.queue.len() == QUEUE {
+            self.at_limits(room, step, number);
         }
     }
 
-    fn entered(&mut self, room: &WaitingRoom, length: usize, number: u8) {
-        let held = room.held();
+    fn entered(&mut self, room: &WaitingRoom, frame: &[u8], number: u8) {
+        let (held, length) = (room.held(), frame.len());
         let row = match room.waiting() {
             few @ (0 | 1) => few,
             2..=30 => 2,
@@ -462,12 +622,14 @@ impl Cases {
         self.entering.count(row, column);
         if number == 0 {
             self.lies(0, room, held, length);
+            self.moves_totals(0, room, frame[4] & 3);
         }
     }
 
     fn left(&mut self, room: &WaitingRoom, to: u32) {
         let (length, from) = room.first();
         self.lies(1, room, 0, length);
+        self.moves_totals(1, room, room.first_left());
         let column = match to.wrapping_sub(from) {
             0 => 0,
             1..=200 => 1,
@@ -488,9 +650,61 @@ impl Cases {
         self.lying.count(2 * call + usize::from(head == octets), column);
     }
 
+    /// Counts how a frame with so many blocks that may be dropped moves each total: towards 1,536 where it enters and
+    /// towards 0 where it leaves, and beyond that where the host overwrote the total.
+    fn moves_totals(&mut self, call: usize, room: &WaitingRoom, left: u8) {
+        for (row, total) in room.queue[TOTALS..].iter().enumerate() {
+            let octets = 16 * u32::from(left).min(row as u32 + 1);
+            let way = if call == 0 { TOTAL_MAX - total } else { *total };
+            let column = match octets.cmp(&way) {
+                _ if octets == 0 => 0,
+                Ordering::Less => 1,
+                Ordering::Equal => 2,
+                Ordering::Greater => 3,
+            };
+            self.totals.count(LEVELS * call + row, column);
+        }
+    }
+
+    /// Counts a question by what stands in its way, and by its level.
+    fn asked(&mut self, room: &WaitingRoom, level: u8, no_room: bool) {
+        let row = if no_room {
+            1
+        } else if room.queue.len() != QUEUE {
+            2
+        } else {
+            let past = room.past_limits(STORE_MAX);
+            let mut past = (0..LIMITED.len()).filter(|number| past[*number] > 0);
+            match (past.next(), past.next()) {
+                (None, _) => 0,
+                (Some(alone), None) => IN_THE_WAY.len() + alone,
+                _ => 3,
+            }
+        };
+        self.asked.count(row, usize::from(level).min(5));
+    }
+
+    /// Counts the numbers of a record that are at their limit where 14 does not stop the call, and the one past its
+    /// limit where 14 does.
+    fn at_limits(&mut self, room: &WaitingRoom, step: &Step, number: u8) {
+        let end = if let Step::Ask { .. } = step { STORE_MAX } else { room.store.len() };
+        let past = room.past_limits(end);
+        let one_is_past = past.iter().filter(|past| **past > 0).count() == 1;
+        for (limited, past) in past.into_iter().enumerate() {
+            let column = match (number, past) {
+                (14, 1..) if one_is_past => past.min(2) as usize,
+                (14, _) => continue,
+                (_, 0) => 0,
+                _ => continue,
+            };
+            self.limits.count(row(step, limited, LIMITED.len()), column);
+        }
+    }
+
     /// Counts a call by itself that the flat form has nothing against, by the store and by what was overwritten.
     pub fn met_single(&mut self, room: &WaitingRoom, overwritten: Option<usize>, step: &Step, number: u8) {
-        if let Some(store) = STORES.iter().position(|octets| *octets == room.store.len()) {
+        let store = STORES.iter().position(|octets| *octets == room.store.len());
+        if let (Some(store), Step::Enter { .. } | Step::Take { .. }) = (store, step) {
             self.single.count(row(step, store, STORES.len()), answer(number));
         }
         if let Some(field) = overwritten {
@@ -499,9 +713,20 @@ impl Cases {
     }
 
     /// Counts a call of a sequence that goes as a list does, in one of the stores and with so many waiting.
-    pub fn met_in_turn(&mut self, store: usize, waiting: usize, step: &Step, number: u8) {
+    pub fn met_in_turn(&mut self, store: usize, waiting: usize, step: &Step, number: u8, answer: &[u64]) {
+        if step.flat().is_some() {
+            return;
+        }
+        if let Step::Ask { level, .. } = step {
+            let most = (16 * FRAMES as u64) * u64::from(*level);
+            let column = match (number, answer[0]) {
+                (0, 0) => 0,
+                (0, octets) => 1 + usize::from(octets == most),
+                _ => 3,
+            };
+            self.answered.count(usize::from(*level).min(LEVELS + 1), column);
+        }
         let column = match (step, number) {
-            _ if step.flat().is_some() => return,
             (_, 14) => 7,
             (Step::Enter { .. }, 0) => 0,
             (Step::Enter { .. }, 25) => 1 + usize::from(waiting < FRAMES),
@@ -509,6 +734,8 @@ impl Cases {
             (Step::Take { .. }, 0) => 4,
             (Step::Take { .. }, 26) => 5,
             (Step::Take { .. }, _) => 6,
+            (Step::Ask { .. }, 0) => 8,
+            (Step::Ask { .. }, _) => 9,
         };
         self.in_turn.count(store, column);
     }
@@ -520,14 +747,18 @@ impl Cases {
         }
     }
 
-    pub fn tables(&self) -> [(&'static str, &Table); 7] {
+    pub fn tables(&self) -> [(&'static str, &Table); 11] {
         [
             ("Frames that entered or had no room, by those waiting and the octets left", &self.entering),
             ("Frames that entered and left, by where in the store they lie", &self.lying),
             ("Frames that left, by their wait and whether the clock rolled over in it", &self.waits),
+            ("Frames that entered and left, by how far each total goes up to 1,536 or down to 0", &self.totals),
+            ("Numbers of a record at their limit, and past it", &self.limits),
+            ("Questions, by what stands in the way of an answer and the level", &self.asked),
             ("Single calls of a waiting room, by its store and the number answered", &self.single),
             ("Records with one number overwritten, by the number answered", &self.overwritten),
             ("Calls of sequences that go as a plain list does, by the store", &self.in_turn),
+            ("Questions of such sequences, by the level and the octets answered", &self.answered),
             ("Calls of sequences in which the host overwrites record and store", &self.disturbed),
         ]
     }

@@ -24,9 +24,10 @@ pub enum Call {
     QueueFresh,
     QueueEnter,
     QueueTake,
+    QueueFreed,
 }
 
-pub const CALLS: usize = 19;
+pub const CALLS: usize = 20;
 
 impl Call {
     pub const ALL: [Call; CALLS] = [
@@ -49,6 +50,7 @@ impl Call {
         Call::QueueFresh,
         Call::QueueEnter,
         Call::QueueTake,
+        Call::QueueFreed,
     ];
 
     pub fn name(self) -> &'static str {
@@ -72,6 +74,7 @@ impl Call {
             Call::QueueFresh => "queue_fresh",
             Call::QueueEnter => "queue_enter",
             Call::QueueTake => "queue_take",
+            Call::QueueFreed => "queue_freed",
         }
     }
 
@@ -96,6 +99,7 @@ impl Call {
             Call::QueueFresh => &[FLAT_14],
             Call::QueueEnter => &[FLAT_14, 14, 1, 2, 3, 24, 4, 5, 6, 7, 8, 9, 25],
             Call::QueueTake => &[FLAT_16, FLAT_14, 14, 26, 10, 15, 1, 2, 3, 24, 4, 5, 6, 7, 8, 9, 16],
+            Call::QueueFreed => &[FLAT_16, FLAT_14, 14, 10],
         }
     }
 
