@@ -1,10 +1,10 @@
 -- The numbers that a call stores, and the totals behind them, as a part that is lent.
-use Prim.Native.Nat.{ℕ, _+_, _-_, _≤_, _<_}
-use mathlib.Core.Path.{_≡_, refl, sym, ap, ap₂, _∙_}
+use Prim.Native.Nat.{ℕ, _+_, _-_, _<_}
+use mathlib.Core.Path.{_≡_, ap, ap₂, _∙_}
 use mathlib.Core.List.{List, [], _∷_, _++_}
 use native.Mathlib.Omega.{arith}
-use lib.ListN.{length, take, drop, getD, set, length-append, length-set, length-take}
-use lib.Seq.{getD-set-same, getD-set-other, drop-set-add, drop-set-lt, take-set-le, take-set-lt, length-take-le}
+use lib.ListN.{length, take, drop, getD, set, length-set}
+use lib.Seq.{getD-set-same, getD-set-other, drop-set-add, drop-set-lt, take-set-le, take-set-lt}
 use borrow.Rule.Slice.PartMut.{midOf, putMid, same-len-mid}
 use Rattle.octets.proofs.PartLaws.{tail-of, tail-put}
 use Rattle.card_queue.specs.Queues.{queueOf}

@@ -4,16 +4,16 @@ use mathlib.Core.Path.{_≡_, refl, ap, ap₂, _∙_}
 use mathlib.Core.Bool.{false}
 use mathlib.Core.List.{List, [], _∷_, _++_}
 use native.Mathlib.Omega.{arith}
-use lib.ListN.{length, drop, replicate}
+use lib.ListN.{length, drop}
 use borrow.Author.Tests.{le-ltb, ne-eqb}
-use Rattle.refusals.specs.Refusals.{_orElse_, ifTaken, refusal10, addressBad}
+use Rattle.refusals.specs.Refusals.{_orElse_, addressBad}
 use Rattle.refusals.proofs.RefusalLaws.{orElse-zero, if-taken, if-refused, by-taken}
 use Rattle.frame.specs.Orders.{takenRefusal}
 use Rattle.onward.specs.Onward.{waitOf, onward}
 use Rattle.onward.specs.declared.Sent.{Sent}
-use Rattle.totals.specs.Totals.{gives, levels, total}
+use Rattle.totals.specs.Totals.{levels, total}
 use Rattle.totals.proofs.TotalsLaws.{total-is, total-most}
-use Rattle.room.specs.Plain.{Kept, kept, together, enterOrder, refusal26, firstAnswer, sentPast, bufferPast, entered, left, givesAll}
+use Rattle.room.specs.Plain.{Kept, kept, together, enterOrder, refusal26, firstAnswer, left, givesAll}
 use Rattle.room.specs.Waiting.{waiting, Lets, Counted}
 use Rattle.room.specs.Rules.{freedRefusal, freedAnswer}
 use Rattle.room.specs.declared.Queue.{Queue}
@@ -24,7 +24,7 @@ use Rattle.room.proofs.FreedLaws.{freed-14}
 use Rattle.room.proofs.CountLaws.{counted-covered}
 use Rattle.room.proofs.ShrinkLaws.{shrinks, node-answers}
 use Rattle.queue.specs.Calls.{freshQueue}
-use Rattle.queue.specs.Sequence.{Call, Comes, Goes, Answer, answers, storeAfterAll, queueAfterAll, afterAll, plainSent, plainAnswer, plainAfter, plainAnswers, plainAfterAll, allGo, sentTogether}
+use Rattle.queue.specs.Sequence.{Call, Comes, Goes, answers, storeAfterAll, queueAfterAll, afterAll, plainSent, plainAnswer, plainAfter, plainAnswers, plainAfterAll, allGo, sentTogether}
 use Rattle.queue.proofs.SequenceLaws.{as-a-list, left-as-a-list, lets-all, counted-all, fresh-empty, fresh-lets, fresh-counted}
 
 abbrev pub given : ℕ → GivenBack

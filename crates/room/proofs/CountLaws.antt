@@ -5,7 +5,6 @@ use mathlib.Core.List.{List, [], _∷_, _++_}
 use native.Mathlib.Nat.{le-refl}
 use lib.ListN.{length, drop}
 use Rattle.refusals.specs.Refusals.{ifTaken}
-use Rattle.onward.specs.declared.Sent.{Sent}
 use Rattle.totals.specs.Totals.{levels, total, raised, lowered}
 use Rattle.totals.proofs.TotalsLaws.{totals-at-most}
 use Rattle.room.specs.Plain.{Kept, kept, firstOf, givesAll}

@@ -6,7 +6,7 @@ use mathlib.Core.List.{List, []}
 use native.Mathlib.Omega.{arith}
 use lib.ListN.{length, getD}
 use borrow.Author.Tests.{ltb-false, le-ltb}
-use Rattle.refusals.specs.Refusals.{_orElse_, refuse, ifTaken, refusal10}
+use Rattle.refusals.specs.Refusals.{_orElse_, refuse, refusal10}
 use Rattle.refusals.proofs.RefusalLaws.{orElse-zero, refuse-zero, refused-is, done-is}
 use Rattle.ring.specs.Ring.{sum}
 use Rattle.ring.specs.Parts.{Slots}
@@ -16,8 +16,7 @@ use Rattle.room.specs.Waiting.{lengthsOf, misplaced, overfull, outside, 
 use Rattle.room.specs.Rules.{freedRefusal, freedAnswer}
 use Rattle.room.specs.Parts.{bare}
 use Rattle.room.specs.declared.Queue.{Queue}
-use Rattle.room.specs.declared.GivenBack.{GivenBack}
-use Rattle.room.proofs.InsideLaws.{Inside, inside, let-by}
+use Rattle.room.proofs.InsideLaws.{inside, let-by}
 
 -- in the longest store the lengths of 32 frames, each an octet, are always within
 longest : (q : Queue) → ((i : ℕ) → getD (q .lengths) i 0 < 256) → length (q .lengths) ≤ 32 → outside 16384 q ≡ (misplaced 16384 q || overfull q)

@@ -1,12 +1,12 @@
 -- What a level gives back of a frame is what the node's own step makes it shorter by.
-use Prim.Native.Nat.{ℕ, _+_, _*_, _≤_, min}
-use mathlib.Core.Path.{_≡_, refl, sym, ap, _∙_}
-use mathlib.Core.Bool.{Bool, true, false, cond}
+use Prim.Native.Nat.{ℕ, _+_, _*_, _≤_}
+use mathlib.Core.Path.{_≡_, refl, sym, _∙_}
+use mathlib.Core.Bool.{false}
 use mathlib.Core.List.{List}
 use native.Mathlib.Omega.{arith}
 use lib.ListN.{length}
 use Rattle.refusals.specs.Refusals.{addressBad}
-use Rattle.frame.specs.Fields.{isVoice, fieldM, fieldC}
+use Rattle.frame.specs.Fields.{fieldM, fieldC}
 use Rattle.frame.specs.Orders.{takenRefusal}
 use Rattle.frame.proofs.FrameLaws.{Passes, passes, taken-short, by-kind}
 use Rattle.onward.specs.Onward.{dropped, onward}

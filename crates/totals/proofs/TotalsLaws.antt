@@ -10,8 +10,8 @@ use borrow.Author.Tests.{ltb-false, le-ltb}
 use Rattle.octets.proofs.BoolLaws.{or-false}
 use Rattle.frame.specs.Fields.{isVoice, fieldC}
 use Rattle.onward.specs.Onward.{dropped}
-use Rattle.totals.specs.Totals.{gives, levels, total, raised, lowered, anyAbove}
-use Rattle.totals.specs.Parts.{droppable, Totalled}
+use Rattle.totals.specs.Totals.{gives, levels, total, lowered, anyAbove}
+use Rattle.totals.specs.Parts.{droppable}
 
 -- by the blocks that may still be dropped
 pub gives-is : (level : ℕ) (f : List ℕ) → gives level f ≡ 16 * min (droppable f) level

@@ -1,5 +1,4 @@
 use Rattle.room.proofs.FreedLaws.{freed-refused, level-judged, freed-done}
-use borrow.Author.Needs.{needs}
 use Rattle.room.proofs.freed_by.Statement.{statement}
 use Rattle.room.proofs.freed_by.Tie as tie
 

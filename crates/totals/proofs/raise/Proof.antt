@@ -1,8 +1,7 @@
-use Prim.Native.Nat.{_+_, _≤_}
+use Prim.Native.Nat.{_+_}
 use mathlib.Core.Path.{refl}
 use native.Mathlib.Omega.{arith}
 use borrow.Author.Needs.{needs}
-use lib.ListN.{getD}
 use Rattle.totals.specs.Totals.{raised}
 use Rattle.totals.proofs.TotalsLaws.{none-above, moved}
 use Rattle.totals.proofs.raise.Statement.{statement}
