@@ -62,7 +62,7 @@ first-67 (a ∷ []) h = absurd (omega arith)
 first-67 (a ∷ b ∷ []) h = absurd (omega arith)
 first-67 (a ∷ b ∷ c ∷ r) h = ap (λ (x : List ℕ). a ∷ b ∷ c ∷ x) (take-add 32 32 r)
 
--- and all 70
+-- and all 70: no number of the slice is lost in the record
 pub kept-is : (kept : List ℕ) → length kept ≡ 70 → kept ≡ queueNumbers (queueOf kept)
 kept-is kept h = sym (take-append-drop 67 kept) ∙ ap (λ (x : List ℕ). x ++ drop 67 kept) (first-67 kept h)
 

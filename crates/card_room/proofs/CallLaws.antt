@@ -15,26 +15,20 @@ use Rattle.room.specs.Parts.{queueWith, bare, spotBy, storeBy, stepOf}
 use Rattle.room.specs.declared.Queue.{Queue}
 use Rattle.room.specs.declared.Spot.{Spot}
 use Rattle.room.specs.declared.Step.{Step}
-use Rattle.room.proofs.TakeLaws.{after-refused}
 use Rattle.queue.specs.Calls.{enterAnswer, takeAnswer}
 use Rattle.queue.specs.declared.Entered.{Entered}
 use Rattle.queue.specs.declared.Taken.{Taken}
-use Rattle.queue.proofs.AnswerLaws.{Met, met, Slotted, slotted, entry-refused, entry-done, takenWith, taken-blocks, taken-by}
-use Rattle.card.specs.Card.{put, written, short}
-use Rattle.card.proofs.CardLaws.{left-alone}
+use Rattle.queue.proofs.AnswerLaws.{Met, met, Slotted, slotted, entry-refused, entry-done, takenWith, taken-blocks, taken-sent, taken-by}
+use Rattle.card.specs.Card.{written, short}
+use Rattle.card.proofs.CardLaws.{left-alone, answered}
 use Rattle.card_queue.specs.Queues.{queueOf, queueNumbers, keptRefusal}
-use Rattle.card_queue.proofs.QueueLaws.{kept-is, all-put, lengths-32, clocks-32, totals-3, totals-lent, part-3, fits, Flat, flat-stops, flat-goes, flat-done}
+use Rattle.card_queue.proofs.QueueLaws.{all-put, lengths-32, clocks-32, totals-3, totals-lent, part-3, fits, Flat, flat-stops, flat-goes, flat-done}
 use Rattle.card_room.specs.Rooms.{keptEnter, keptStore, keptTake, keptBuffer}
 use Rattle.card_room.proofs.StoredLaws.{slot-size, slot-first, slot-behind, head-size, head-first, head-behind, lent-on, put-back}
 
--- the numbers of a queue stored over those that came: where the call is refused it is the same queue
-stored-over : (kept : List ℕ) (n : ℕ) (p : Queue) (x : List ℕ) → length kept ≡ 70 → length x ≡ 70 → x ≡ queueNumbers p → ((n ≡ 0 → ⊥) → p ≡ queueOf kept)
-    → x ≡ written n (queueNumbers p) kept
-unfolding written
-stored-over kept n p x h hx e same =
-    by-taken n
-    (λ z. e ∙ sym (if-taken n (put (queueNumbers p) kept) kept z ∙ all-put (queueNumbers p) kept (omega (arith, ap length e))))
-    (λ r. e ∙ ap queueNumbers (same r) ∙ sym (if-refused n (put (queueNumbers p) kept) kept r ∙ kept-is kept h))
+-- the numbers of a queue stored over as many that came
+stored-over : (kept : List ℕ) (n : ℕ) (p : Queue) (x : List ℕ) → 0 ≡ n → length x ≡ 70 → length kept ≡ 70 → x ≡ queueNumbers p → x ≡ written n (queueNumbers p) kept
+stored-over kept n p x z hx h e = answered n 0 (queueNumbers p) kept z refl x (e ∙ sym (all-put (queueNumbers p) kept (omega (arith, ap length e))))
 
 -- as long with totals moved on
 still-70 : (k us : List ℕ) → length k ≡ 70 → length us ≡ 3 → length (take 67 k ++ us) ≡ 70
@@ -113,8 +107,8 @@ module _ (s kept f : List ℕ) (clock : ℕ) where
             (
               a .1 .0 ∙ sym store-called,
               put-back entered-kept entered-size us
-                  ∙ stored-over kept (keptEnter s kept f clock .refusal) (keptEnter s kept f clock .after) (take 67 entered-kept ++ us) enter-size
-                  (still-70 entered-kept us entered-size (as-many ∙ ap length entered-totals ∙ totals-3 kept enter-size)) made (λ h. absurd (h (sym k))),
+                  ∙ stored-over kept (keptEnter s kept f clock .refusal) (keptEnter s kept f clock .after) (take 67 entered-kept ++ us) k
+                  (still-70 entered-kept us entered-size (as-many ∙ ap length entered-totals ∙ totals-3 kept enter-size)) enter-size made,
             ),
           )
 
@@ -166,12 +160,20 @@ module _ (s kept : List ℕ) (to level addr : ℕ) (out answer : List ℕ) where
       unfolding keptBuffer
       buffer-called = if-taken (keptRefusal kept) (takeBuffer s (queueOf kept) to level addr out) out fitting
 
-      -- refused, the record after it is the record that came
-      same-queue : (keptTake s kept to level addr out .refusal ≡ 0 → ⊥) → keptTake s kept to level addr out .after ≡ queueOf kept
-      unfolding takeAnswer
-      same-queue h =
-          ap (λ (x : Taken). x .after) take-called
-          ∙ after-refused s (queueOf kept) (lengths-32 kept take-size) (clocks-32 kept take-size) to level addr out (λ n. h (ap (λ (x : Taken). x .refusal) take-called ∙ n))
+      module _ (after : List ℕ)
+          (eb : after ≡ takeBuffer s (queueWith (getD kept 0 0) (getD kept 1 0) (getD kept 2 0) (take 32 (drop 3 kept)) (take 32 (drop 35 kept)) (take (length kept - 67) (drop 67 kept))) to level addr out) where
+        -- number, answer and buffer, refused or not
+        said : (step .refusal ≡ short 1 answer orElse keptTake s kept to level addr out .refusal)
+            × ((set a 0 (step .length) ≡ written (short 1 answer) (keptTake s kept to level addr out .length ∷ []) answer)
+            × (after ≡ ifTaken (short 1 answer) (keptBuffer s kept to level addr out) out))
+        said =
+            let t = taken-sent s (queueOf kept) to level addr out (queueOf kept .lengths) (queueOf kept .clocks) _ refl (lengths-32 kept take-size) refl (clocks-32 kept take-size) (totals-lent kept take-size) (part-3 kept take-size) step es after eb in
+            let b = flat-done kept answer r a f z (keptTake s kept to level addr out .refusal) (keptTake s kept to level addr out .length) (step .refusal) (step .length)
+            (t .0 ∙ sym (ap (λ (x : Taken). x .refusal) take-called)) (t .1 .0 ∙ sym (ap (λ (x : Taken). x .length) take-called)) in
+            (b .0, (b .1, t .1 .1 ∙ sym buffer-called ∙ sym (if-taken (short 1 answer) (keptBuffer s kept to level addr out) out slots)))
+
+        pub take-refused : (step .refusal ≡ 0 → ⊥) → Takes (step .refusal) (set a 0 (step .length)) after kept
+        take-refused h = (said .0, (said .1 .0, (said .1 .1, left-alone _ (step .refusal) _ kept (said .0) h)))
 
       -- the numbers stored before the totals
       abbrev pub taken-kept : List ℕ
@@ -190,27 +192,26 @@ module _ (s kept : List ℕ) (to level addr : ℕ) (out answer : List ℕ) where
       )
 
       pub take-done : (after : List ℕ)
-          → after ≡ takeBuffer s (queueWith (getD kept 0 0) (getD kept 1 0) (getD kept 2 0) (take 32 (drop 3 kept)) (take 32 (drop 35 kept)) (take (length kept - 67) (drop 67 kept))) to level addr out
-          → (us : List ℕ) → length us ≡ length (midOf 67 (length taken-kept - 67) taken-kept) → ((g : List ℕ) → step .blocks ≡ droppable g → us ≡ lowered g (midOf 67 (length taken-kept - 67) taken-kept))
-          → Takes (step .refusal) (set a 0 (step .length)) after (putMid 67 (length taken-kept - 67) taken-kept us)
-      take-done after eb us as-many lower =
+          → (eb : after ≡ takeBuffer s (queueWith (getD kept 0 0) (getD kept 1 0) (getD kept 2 0) (take 32 (drop 3 kept)) (take 32 (drop 35 kept)) (take (length kept - 67) (drop 67 kept))) to level addr out)
+          → step .refusal ≡ 0 → (us : List ℕ) → length us ≡ length (midOf 67 (length taken-kept - 67) taken-kept)
+          → ((g : List ℕ) → step .blocks ≡ droppable g → us ≡ lowered g (midOf 67 (length taken-kept - 67) taken-kept))
+          → Takes 0 (set a 0 (step .length)) after (putMid 67 (length taken-kept - 67) taken-kept us)
+      take-done after eb done us as-many lower =
           let down : (g : List ℕ) → step .blocks ≡ droppable g → us ≡ lowered g (take (length kept - 67) (drop 67 kept)) =
           λ g e. lower g e ∙ ap (lowered g) (taken-totals ∙ sym (totals-lent kept take-size)) in
-          let t = taken-by s (queueOf kept) to level addr out (queueOf kept .lengths) (queueOf kept .clocks) _ refl (lengths-32 kept take-size) refl (clocks-32 kept take-size) (totals-lent kept take-size) (part-3 kept take-size) step es
-          after eb us down in
-          let so : takenWith step (queueOf kept .lengths) (queueOf kept .clocks) us ≡ keptTake s kept to level addr out = t .0 ∙ sym take-called in
-          let b = flat-done kept answer r a f z (keptTake s kept to level addr out .refusal) (keptTake s kept to level addr out .length) (step .refusal) (step .length) (ap (λ (x : Taken). x .refusal) so) (ap (λ (x : Taken). x .length) so) in
+          let so : takenWith step (queueOf kept .lengths) (queueOf kept .clocks) us ≡ keptTake s kept to level addr out =
+          taken-by s (queueOf kept) to level addr out (queueOf kept .lengths) (queueOf kept .clocks) _ refl (lengths-32 kept take-size) refl (clocks-32 kept take-size) (totals-lent kept take-size) (part-3 kept take-size) step es
+          after eb us down .0 ∙ sym take-called in
+          let number : 0 ≡ short 1 answer orElse keptTake s kept to level addr out .refusal = sym done ∙ said after eb .0 in
           let made : take 67 taken-kept ++ us ≡ queueNumbers (keptTake s kept to level addr out .after) =
           ap (λ (x : List ℕ). x ++ us) (head-first kept take-size (step .head) (step .first) (step .count)) ∙ ap (λ (x : Taken). queueNumbers (x .after)) so in (
-            b .0,
+            number,
             (
-              b .1,
+              said after eb .1 .0,
               (
-                t .1 .0 ∙ sym buffer-called ∙ sym (if-taken (short 1 answer) (keptBuffer s kept to level addr out) out slots),
+                said after eb .1 .1,
                 put-back taken-kept taken-size us
-                    ∙ stored-over kept (short 1 answer orElse keptTake s kept to level addr out .refusal) (keptTake s kept to level addr out .after) (take 67 taken-kept ++ us) take-size
-                    (still-70 taken-kept us taken-size (as-many ∙ lowerable .0)) made
-                    (λ h. same-queue (λ n. h (ap (λ (x : ℕ). x orElse keptTake s kept to level addr out .refusal) slots ∙ n))),
+                    ∙ stored-over kept _ (keptTake s kept to level addr out .after) (take 67 taken-kept ++ us) number (still-70 taken-kept us taken-size (as-many ∙ lowerable .0)) take-size made,
               ),
             ),
           )

@@ -79,9 +79,12 @@ pub extern "C" fn pelgrant_queue_take(
         out,
     );
     answer[0] = step.length as u64;
+    if step.refusal != 0 {
+        return step.refusal;
+    }
     kept[0] = step.head;
     kept[1] = step.first;
     kept[2] = step.count;
     totals::lower(&mut kept[67..], step.blocks);
-    step.refusal
+    0
 }

@@ -148,6 +148,13 @@ module _ (s : List ℕ) (q : Queue) (to level addr : ℕ) (out ls cs ts : List �
   pub taken-blocks : x .blocks < 4
   taken-blocks = rw step-is (blocks-few s q (sym (ap length el) ∙ ll) (sym (ap length ec) ∙ lc) to level addr out)
 
+  -- what is answered, and left in the buffer, whatever becomes of the totals
+  pub taken-sent : (after : List ℕ) → after ≡ takeBuffer s (queueWith (q .head) (q .first) (q .count) ls cs ts) to level addr out
+      → (x .refusal ≡ takeAnswer s q to level addr out .refusal) × ((x .length ≡ takeAnswer s q to level addr out .length) × (after ≡ takeBuffer s q to level addr out))
+  unfolding stepOf takeAnswer
+  taken-sent after eb =
+      (ap (λ (y : Step). y .refusal) step-is, (ap (λ (y : Step). y .length) step-is, eb ∙ ap (λ (p : Queue). takeBuffer s p to level addr out) asked-is))
+
   pub taken-by : (after : List ℕ) → after ≡ takeBuffer s (queueWith (q .head) (q .first) (q .count) ls cs ts) to level addr out
       → (us : List ℕ) → ((f : List ℕ) → x .blocks ≡ droppable f → us ≡ lowered f ts)
       → (takenWith x (q .lengths) (q .clocks) us ≡ takeAnswer s q to level addr out)

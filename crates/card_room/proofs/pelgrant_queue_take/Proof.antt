@@ -5,7 +5,7 @@ use borrow.Author.Needs.{needs}
 use Rattle.card_queue.specs.Queues.{keptRefusal}
 use Rattle.card_queue.proofs.QueueLaws.{clocks-32, part-3, fits, Flat, flat-goes, flat-room}
 use Rattle.card_room.proofs.StoredLaws.{put-size}
-use Rattle.card_room.proofs.CallLaws.{take-stops, lowerable, take-done}
+use Rattle.card_room.proofs.CallLaws.{take-stops, take-refused, lowerable, take-done}
 use Rattle.card_room.proofs.pelgrant_queue_take.Statement.{statement}
 use Rattle.card_room.proofs.pelgrant_queue_take.Tie as tie
 
@@ -89,39 +89,8 @@ slice-write-answer c =
     let f = e .before .before .before in
     flat-room (start f .args .kept .now) (start f .args .answer .now) (f .flat-refusal .result) (f .flat-refusal .last .1 .0) (flat f) (e .if1 .left)
 
-slice-write-kept : tie.Need-slice-write-kept
-slice-write-kept c = omega (arith, size (judged (c .before .before)))
-
-slice-write-kept-2 : tie.Need-slice-write-kept-2
-slice-write-kept-2 c = simp length-set (omega (arith, size (judged (c .before .before))))
-
-slice-write-kept-3 : tie.Need-slice-write-kept-3
-slice-write-kept-3 c = simp length-set (omega (arith, size (judged (c .before .before))))
-
-sub-lower : tie.Need-sub-lower
-sub-lower c = simp length-set (omega (arith, size (judged (c .before .before))))
-
-part-lower-start : tie.Need-part-lower-start
-part-lower-start c = simp length-set (omega (arith, size (judged (c .before .before))))
-
-part-lower-end : tie.Need-part-lower-end
-part-lower-end c = search needs
-
-lower-requires : tie.Need-lower-requires
-lower-requires c κs =
-    let v = c .before .before .before in
-    let e = judged v in
-    let f = e .before .before .before in
-    let a = start f .args in
-    lowerable (a .store .now) (a .kept .now) (a .to) (a .level) (a .address) (a .out .now) (a .answer .now) (f .flat-refusal .result) (f .flat-refusal .last .1 .0) (flat f) (e .if1 .left) (v .take-by .result) (v .take-by .ensures .0)
-
 same-length-3 : tie.Need-same-length-3
-same-length-3 c =
-    let v = c .before .before .before .before .before .before in
-    let a = start (judged v .before .before .before) .args in
-    let x = v .take-by .result in
-    let r = c .before .before .lower in
-    put-size (a .kept .now) (r .last .0) 0 1 2 (x .head) (x .first) (x .count) (r .kept .0)
+same-length-3 c = search needs
 
 same-length-4 : tie.Need-same-length-4
 same-length-4 c = search needs
@@ -131,13 +100,61 @@ same-length-5 c = search needs
 
 returns-2 : tie.Need-returns-2
 returns-2 c =
-    let v = c .before .before .before .before .before .before in
+    let v = c .before .before .before .before in
+    let e = judged v in
+    let f = e .before .before .before in
+    let a = start f .args in
+    take-refused (a .store .now) (a .kept .now) (a .to) (a .level) (a .address) (a .out .now) (a .answer .now) (f .flat-refusal .result) (f .flat-refusal .last .1 .0) (flat f) (e .if1 .left) (v .take-by .result) (v .take-by .ensures .0) _ (v .take-by .ensures .1) (c .if2 .taken)
+
+slice-write-kept : tie.Need-slice-write-kept
+slice-write-kept c = omega (arith, size (judged (c .before .before .before .before)))
+
+slice-write-kept-2 : tie.Need-slice-write-kept-2
+slice-write-kept-2 c = simp length-set (omega (arith, size (judged (c .before .before .before .before))))
+
+slice-write-kept-3 : tie.Need-slice-write-kept-3
+slice-write-kept-3 c = simp length-set (omega (arith, size (judged (c .before .before .before .before))))
+
+sub-lower : tie.Need-sub-lower
+sub-lower c = simp length-set (omega (arith, size (judged (c .before .before .before .before))))
+
+part-lower-start : tie.Need-part-lower-start
+part-lower-start c = simp length-set (omega (arith, size (judged (c .before .before .before .before))))
+
+part-lower-end : tie.Need-part-lower-end
+part-lower-end c = search needs
+
+lower-requires : tie.Need-lower-requires
+lower-requires c κs =
+    let v = c .before .before .before .before .before in
+    let e = judged v in
+    let f = e .before .before .before in
+    let a = start f .args in
+    lowerable (a .store .now) (a .kept .now) (a .to) (a .level) (a .address) (a .out .now) (a .answer .now) (f .flat-refusal .result) (f .flat-refusal .last .1 .0) (flat f) (e .if1 .left) (v .take-by .result) (v .take-by .ensures .0)
+
+same-length-6 : tie.Need-same-length-6
+same-length-6 c =
+    let v = c .before .before .before .before .before .before .before .before in
+    let a = start (judged v .before .before .before) .args in
+    let x = v .take-by .result in
+    let r = c .before .before .lower in
+    put-size (a .kept .now) (r .last .0) 0 1 2 (x .head) (x .first) (x .count) (r .kept .0)
+
+same-length-7 : tie.Need-same-length-7
+same-length-7 c = search needs
+
+same-length-8 : tie.Need-same-length-8
+same-length-8 c = search needs
+
+returns-3 : tie.Need-returns-3
+returns-3 c =
+    let v = c .before .before .before .before .before .before .before .before in
     let e = judged v in
     let f = e .before .before .before in
     let a = start f .args in
     let l = c .before .before .lower in
     take-done (a .store .now) (a .kept .now) (a .to) (a .level) (a .address) (a .out .now) (a .answer .now) (f .flat-refusal .result) (f .flat-refusal .last .1 .0) (flat f) (e .if1 .left) (v .take-by .result) (v .take-by .ensures .0)
-    _ (v .take-by .ensures .1) (l .last .0) (l .kept .0) (l .ensures)
+    _ (v .take-by .ensures .1) (c .before .before .before .before .if2 .left) (l .last .0) (l .kept .0) (l .ensures)
 
 pub pelgrant-queue-take-spec : {M : Type 1} → statement M
 pelgrant-queue-take-spec =
@@ -161,6 +178,10 @@ pelgrant-queue-take-spec =
     part-take-by-end-3
     take-by-requires
     slice-write-answer
+    same-length-3
+    same-length-4
+    same-length-5
+    returns-2
     slice-write-kept
     slice-write-kept-2
     slice-write-kept-3
@@ -168,7 +189,7 @@ pelgrant-queue-take-spec =
     part-lower-start
     part-lower-end
     lower-requires
-    same-length-3
-    same-length-4
-    same-length-5
-    returns-2)
+    same-length-6
+    same-length-7
+    same-length-8
+    returns-3)
