@@ -4,6 +4,7 @@ ghost use mathlib.Core.List.{_++_};
 ghost use mathlib.Core.Bool.{cond};
 ghost use Prim.Native.Nat.{_-_, _<_, _≤_, min};
 ghost use lib.ListN.{length, drop, getD};
+ghost use Rattle.octets.specs.Octets.{two};
 ghost use Rattle.octets.specs.Sequence.{nextNumber};
 
 pub fn wide(x: u8) -> usize
@@ -24,6 +25,13 @@ pub fn less(a: usize, b: usize) -> usize
     ensures { λ r. ⌜ r ≡ a - b ⌝ }
 {
     if b <= a { a - b } else { 0 }
+}
+
+// Two octets from octet n on, counted from 1, little-endian.
+pub fn two_octets(s: &[u8], n: usize) -> usize
+    ensures { λ r. ⌜ (r ≡ two n (now (s .entry))) × (r < 65536) ⌝ }
+{
+    at(s, less(n, 1)) + 256 * at(s, n)
 }
 
 pub fn lesser(a: usize, b: usize) -> usize

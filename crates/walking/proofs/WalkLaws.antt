@@ -9,9 +9,10 @@ use lib.ListN.{length, take, drop, length-append, List·getD-append}
 use lib.Seq.{take-append-le}
 use borrow.Author.Tests.{le-leb, leb-true, leb-false, ne-eqb}
 use Rattle.octets.specs.Octets.{octet}
+use Rattle.octets.specs.Records.{following, kind}
 use Rattle.octets.proofs.BoolLaws.{and-true}
 use Rattle.walking.specs.Text.{line, stopLine}
-use Rattle.walking.specs.Walk.{Carried, Effect, step, two, allowed, legal, first, following, kind, outcome, counted}
+use Rattle.walking.specs.Walk.{Carried, Effect, step, allowed, legal, first, outcome, counted}
 
 module _ (s : Carried) (r : List ℕ) where
   pub step-taken : legal r ≡ true → step s r ≡ record {

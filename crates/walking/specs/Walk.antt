@@ -5,7 +5,8 @@ use mathlib.Core.Bool.{Bool, true, false, _&&_, _||_, cond}
 use mathlib.Core.List.{List, [], _∷_, _++_}
 use lib.Dec.{ltb, leb, eqb}
 use lib.ListN.{length, take, drop}
-use Rattle.octets.specs.Octets.{octet}
+use Rattle.octets.specs.Octets.{octet, two}
+use Rattle.octets.specs.Records.{following, kind}
 use Rattle.refusals.specs.Refusals.{ifTaken}
 use Rattle.frame.specs.Fields.{stamp, fieldC}
 use Rattle.onward.specs.Onward.{waitOf, onward}
@@ -30,21 +31,11 @@ pub record Carried : Type 0 where
 abbrev pub atFirst : Carried
 atFirst = record { number = 0; sseq = 0; endpoint = freshRecord 100; frame = [] }
 
--- two and four octets from octet n on, little-endian
-abbrev pub two : ℕ → List ℕ → ℕ
-two n r = octet n r + 256 * octet (n + 1) r
-
+-- four octets from octet n on, little-endian
 abbrev pub four : ℕ → List ℕ → ℕ
 four n r = two n r + 65536 * two (n + 2) r
 
--- what is left of the input begins with a record: length, counting what follows, and kind
-abbrev pub following : List ℕ → ℕ
-following r = two 1 r
-
-abbrev pub kind : List ℕ → ℕ
-kind r = two 3 r
-
--- the length is 7 for kind 2, 6 for kind 3, and 10 to 1,024 for kind 1, whose step is 0, 1 or 2
+-- what is left of the input begins with a record: its length is 7 for kind 2, 6 for kind 3, and 10 to 1,024 for kind 1, whose step is 0, 1 or 2
 unfoldable pub allowed : ℕ → ℕ → ℕ → Bool
 allowed kind n step =
     eqb kind 1 && leb 10 n && leb n 1024 && ltb step 3

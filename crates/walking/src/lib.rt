@@ -6,9 +6,10 @@ ghost use lib.ListN.{length, take, drop};
 ghost use mathlib.Core.Bool.{true, false};
 ghost use Rattle.onward.specs.Sent.{sentAnswer, sentBuffer};
 ghost use Rattle.walking.specs.Text.{digits, number, afterNumber, line, stopLine, Put};
-ghost use Rattle.walking.specs.Walk.{atFirst, two, four, allowed, legal, told, made, byOrigin, byNode, byEndpoint, outcome, counted, step};
+ghost use Rattle.walking.specs.Walk.{atFirst, four, allowed, legal, told, made, byOrigin, byNode, byEndpoint, outcome, counted, step};
 ghost use Rattle.walking.specs.Held.{carriedOf, toldOf, SevenAtMost, outcomeOf, Stepping};
 ghost use Rattle.walking.specs.Stream.{ready, Passed, Filled, Flushed};
+use octets::two_octets;
 use onward::Sent;
 use origin::Step;
 use playout::Endpoint;
@@ -111,12 +112,6 @@ fn put_stop(n: u64, out: &mut [u8], at: usize) -> usize
     out[end + 3] = 112;
     out[end + 4] = 10;
     end + 5
-}
-
-fn two_octets(rest: &[u8], n: usize) -> usize
-    ensures { λ r. ⌜ (r ≡ two n (now (rest .entry))) × (r < 65536) ⌝ }
-{
-    octets::at(rest, octets::less(n, 1)) + 256 * octets::at(rest, n)
 }
 
 fn four_octets(rest: &[u8], n: usize) -> u32

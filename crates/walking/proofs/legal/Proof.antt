@@ -6,7 +6,8 @@ use mathlib.Core.List.{List}
 use lib.Dec.{leb}
 use lib.ListN.{length}
 use Rattle.octets.specs.Octets.{octet}
-use Rattle.walking.specs.Walk.{following, kind, allowed, legal}
+use Rattle.octets.specs.Records.{following, kind}
+use Rattle.walking.specs.Walk.{allowed, legal}
 use Rattle.walking.proofs.legal.Statement.{statement}
 use Rattle.walking.proofs.legal.Tie as tie
 

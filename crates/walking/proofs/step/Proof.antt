@@ -7,7 +7,8 @@ use lib.ListN.{length, take}
 use lib.Seq.{length-take-le}
 use borrow.Author.Tests.{not-true, not-false}
 use Rattle.walking.specs.declared.Told.{Told}
-use Rattle.walking.specs.Walk.{Carried, Outcome, following, legal, first, outcome, counted}
+use Rattle.octets.specs.Records.{following}
+use Rattle.walking.specs.Walk.{Carried, Outcome, legal, first, outcome, counted}
 use Rattle.walking.specs.Held.{carriedOf, SevenAtMost, outcomeOf}
 use Rattle.walking.proofs.TextLaws.{put-wider}
 use Rattle.walking.proofs.WalkLaws.{step-taken, step-stopped, legal-whole}

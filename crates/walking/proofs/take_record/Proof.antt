@@ -2,7 +2,8 @@ use mathlib.Core.Path.{_≡_, sym, _∙_}
 use mathlib.Core.Bool.{true, false}
 use lib.Dec.{eqb}
 use borrow.Author.Tests.{eq-eqb, ne-eqb}
-use Rattle.walking.specs.Walk.{kind, outcome}
+use Rattle.octets.specs.Records.{kind}
+use Rattle.walking.specs.Walk.{outcome}
 use Rattle.walking.proofs.take_record.Statement.{statement}
 use Rattle.walking.proofs.take_record.Tie as tie
 

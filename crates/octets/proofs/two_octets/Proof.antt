@@ -3,9 +3,9 @@ use mathlib.Core.Path.{_≡_, ap, ap₂, _∙_}
 use mathlib.Core.List.{List}
 use native.Mathlib.Omega.{arith}
 use lib.ListN.{getD}
-use Rattle.walking.specs.Walk.{two}
-use Rattle.walking.proofs.two_octets.Statement.{statement}
-use Rattle.walking.proofs.two_octets.Tie as tie
+use Rattle.octets.specs.Octets.{two}
+use Rattle.octets.proofs.two_octets.Statement.{statement}
+use Rattle.octets.proofs.two_octets.Tie as tie
 
 -- the sum of the two, each below 256
 summed : (r : List ℕ) (n k a b : ℕ) → k ≡ n - 1 → (a ≡ getD r k 0) × (a < 256) → (b ≡ getD r n 0) × (b < 256)
@@ -35,7 +35,7 @@ returns c =
     let a = c .before .at in
     let k = c .before .before .less in
     let g = c .before .before .before .before .args in
-    summed (g .rest .now) (g .n) (k .result) (a .result) (b .result) (k .ensures) (a .ensures) (b .ensures)
+    summed (g .s .now) (g .n) (k .result) (a .result) (b .result) (k .ensures) (a .ensures) (b .ensures)
 
 pub two-octets-spec : {M : Type 1} → statement M
 two-octets-spec =

@@ -1,0 +1,5 @@
+pub mod ReadLaws
+pub mod CountLaws
+pub mod RecordLaws
+pub mod FillLaws
+pub mod RunLaws

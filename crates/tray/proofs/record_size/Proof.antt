@@ -1,0 +1,43 @@
+use Prim.Native.Nat.{ℕ, _+_}
+use mathlib.Core.Path.{_≡_, ap₂, _∙_}
+use mathlib.Core.Bool.{_&&_, cond}
+use mathlib.Core.List.{List}
+use lib.Dec.{eqb, leb}
+use lib.ListN.{length}
+use Rattle.octets.specs.Records.{following, kind}
+use Rattle.tray.specs.Tray.{whole}
+use Rattle.tray.specs.Parts.{recordSize}
+use borrow.Author.Needs.{needs}
+use Rattle.tray.proofs.record_size.Statement.{statement}
+use Rattle.tray.proofs.record_size.Tie as tie
+
+-- of length and kind as they were read
+judged : (r : List ℕ) (n k : ℕ) → n ≡ following r → k ≡ kind r → cond (eqb k 1 && leb 2 n && leb (2 + n) (length r)) (2 + n) 0 ≡ recordSize r
+unfolding recordSize whole
+judged r n k pn pk = ap₂ (λ (x y : ℕ). cond (eqb x 1 && leb 2 y && leb (2 + y) (length r)) (2 + y) 0) pk pn
+
+two-octets-requires : tie.Need-two-octets-requires
+two-octets-requires c κs = tt
+
+two-octets-requires-2 : tie.Need-two-octets-requires-2
+two-octets-requires-2 c κs = tt
+
+add-whole : tie.Need-add-whole
+add-whole c = search needs
+
+add-pick : tie.Need-add-pick
+add-pick c = search needs
+
+pick-requires : tie.Need-pick-requires
+pick-requires c κs = tt
+
+returns : tie.Need-returns
+returns c =
+    let k = c .before .two-octets2 in
+    let n = c .before .before .two-octets in
+    c .pick .ensures ∙ judged (c .before .before .before .before .args .rest .now) (n .result) (k .result) (n .ensures .0) (k .ensures .0)
+
+pub record-size-spec : {M : Type 1} → statement M
+record-size-spec =
+    tie.close
+    (tie.spec two-octets-requires two-octets-requires-2 add-whole add-pick pick-requires returns)

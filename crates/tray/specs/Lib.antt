@@ -1,0 +1,3 @@
+pub mod Tray
+pub mod Parts
+pub mod Turns
