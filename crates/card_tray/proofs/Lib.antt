@@ -1,0 +1,2 @@
+pub mod TraysLaws
+pub mod OneOutcome
