@@ -3,3 +3,8 @@ pub mod CountLaws
 pub mod RecordLaws
 pub mod FillLaws
 pub mod RunLaws
+pub mod TrayLaws
+pub mod TurnLaws
+pub mod CutLaws
+pub mod RoomLaws
+pub mod OneOutcome

@@ -10,7 +10,8 @@ use lib.Seq.{take-at, drop-at, drop-drop}
 use borrow.Author.Tests.{eq-eqb, eqb-true, le-leb, leb-true}
 use Rattle.octets.specs.Records.{following, kind}
 use Rattle.octets.proofs.BoolLaws.{and-true}
-use Rattle.tray.specs.Tray.{whole, frame, Read, withFrame, readPast, read, recordHead, recordOf}
+use Rattle.tray.specs.Tray.{whole, frame, Read, withFrame, readPast, read, recordHead, recordOf, recordsOf}
+use Rattle.tray.specs.Turns.{Fit}
 
 -- what a record that is there has
 pub record Whole (r : List ℕ) : Type 0 where
@@ -106,3 +107,9 @@ module _ (f more : List ℕ) (h : length f + 2 < 65536) where
       read-whole (recordOf f ++ more) (whole-made _ (record { of-kind = made-kind; long = omega (arith, made-following); here = omega (arith, made-following, made-length) }))
       ∙ ap₂ (λ (g r : List ℕ). withFrame g (read r)) made-frame
       (drop-at (recordOf f) more (2 + following (recordOf f ++ more)) (record-length f ∙ omega (arith, made-following)))
+
+-- a tray that is made of frames is read as these frames
+pub read-records : (fs : List (List ℕ)) → Fit fs → read (recordsOf fs) ≡ record { frames = fs; left = [] }
+unfolding recordsOf readPast
+read-records [] h = refl
+read-records (f ∷ fs) h = read-made f (recordsOf fs) (h .0) ∙ ap (withFrame f) (read-records fs (h .1))

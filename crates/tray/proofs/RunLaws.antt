@@ -51,13 +51,13 @@ module _ (level wait addr : ℕ) where
       let g : List ℕ = recordOf (onward level wait addr f) in
       by-taken q
       (λ z.
-        let n : s .length ≡ length g = ap (λ (a : Sent). a .length) (es ∙ if-taken q _ _ z) in
-        let t = record-taken f (length out) z in
-        (n ∙ ap length (sym t), ex ∙ if-taken q _ _ z ∙ ap₂ (λ (l : List ℕ) (k : ℕ). l ++ drop k out) (sym t) (sym n)))
+      let n : s .length ≡ length g = ap (λ (a : Sent). a .length) (es ∙ if-taken q _ _ z) in
+      let t = record-taken f (length out) z in
+      (n ∙ ap length (sym t), ex ∙ if-taken q _ _ z ∙ ap₂ (λ (l : List ℕ) (k : ℕ). l ++ drop k out) (sym t) (sym n)))
       (λ h.
-        let n : s .length ≡ 0 = ap (λ (a : Sent). a .length) (es ∙ if-refused q _ _ h) in
-        let t = record-none f (length out) h in
-        (n ∙ ap length (sym t), ex ∙ if-refused q _ _ h ∙ ap₂ (λ (l : List ℕ) (k : ℕ). l ++ drop k out) (sym t) (sym n)))
+      let n : s .length ≡ 0 = ap (λ (a : Sent). a .length) (es ∙ if-refused q _ _ h) in
+      let t = record-none f (length out) h in
+      (n ∙ ap length (sym t), ex ∙ if-refused q _ _ h ∙ ap₂ (λ (l : List ℕ) (k : ℕ). l ++ drop k out) (sym t) (sym n)))
 
   next-passed : (f : List ℕ) (fs : List (List ℕ)) (room : ℕ) (s : Passed) → s ≡ passed level wait addr fs (room - length (recordsOf (sentOn level wait addr f room)))
       → (passed level wait addr (f ∷ fs) room .refusals ≡ frameRefusal level wait addr f room ∷ s .refusals)
@@ -143,9 +143,10 @@ module _ (level wait addr : ℕ) (tray out₀ list₀ out list : List ℕ) (at w
           × (outgoing level wait addr (drop at tray) (length out₀ - written) ≡ recordsOf (sentOn level wait addr (frame (drop at tray)) (length out₀ - written)) ++ outgoing level wait addr (drop (at + (2 + n)) tray) (length out₀ - (written + sent .length)))
       step =
           let k : length out₀ - (written + sent .length) ≡ length out₀ - written - length (recordsOf (sentOn level wait addr (frame (drop at tray)) (length out₀ - written))) = omega (arith, size-sent) in
-          let m = next-passed level wait addr (frame (drop at tray)) (read (drop (at + (2 + n)) tray) .frames) (length out₀ - written) _ (ap (passed level wait addr (read (drop (at + (2 + n)) tray) .frames)) k) in
-          (ap (λ (r : Read). passed level wait addr (r .frames) (length out₀ - written) .refusals) read-here ∙ m .0 ∙ ap (λ (q : ℕ). q ∷ numbers level wait addr (drop (at + (2 + n)) tray) (length out₀ - (written + sent .length))) (sym refusal-sent),
-          ap (λ (r : Read). recordsOf (passed level wait addr (r .frames) (length out₀ - written) .sent)) read-here ∙ m .1)
+          let m = next-passed level wait addr (frame (drop at tray)) (read (drop (at + (2 + n)) tray) .frames) (length out₀ - written) _ (ap (passed level wait addr (read (drop (at + (2 + n)) tray) .frames)) k) in (
+            ap (λ (r : Read). passed level wait addr (r .frames) (length out₀ - written) .refusals) read-here ∙ m .0 ∙ ap (λ (q : ℕ). q ∷ numbers level wait addr (drop (at + (2 + n)) tray) (length out₀ - (written + sent .length))) (sym refusal-sent),
+            ap (λ (r : Read). recordsOf (passed level wait addr (r .frames) (length out₀ - written) .sent)) read-here ∙ m .1,
+          )
 
       pub run-next : i < length list₀
           → Run level wait addr tray out₀ list₀ (putMid written (length out - written) out p) (set list i (sent .refusal)) (at + (2 + n)) (written + sent .length) (i + 1)
