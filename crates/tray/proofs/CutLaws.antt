@@ -7,11 +7,12 @@ use native.Mathlib.Omega.{arith}
 use lib.ListN.{length, getD, take, drop, length-append, length-drop, List·getD-append}
 use lib.Seq.{take-append-le, drop-append-le, drop-append-add, drop-drop, drop-length}
 use Rattle.octets.specs.Records.{following, kind}
-use Rattle.tray.specs.Tray.{whole, frame, Read, withFrame, readPast, read, trayRefusal, recordsOf, Passed, withFirst, frameRefusal, sentOn, passed, numbers, outgoing, trayAnswer, trayBuffer, trayList}
+use Rattle.tray.specs.Tray.{whole, frame, Read, withFrame, readPast, read, trayRefusal, recordsOf, frameRefusal, sentOn, passed, numbers, outgoing, trayAnswer, trayBuffer, trayList}
 use Rattle.tray.specs.declared.Forwarded.{Forwarded}
 use Rattle.tray.proofs.ReadLaws.{Whole, whole-known, whole-made, read-whole, read-none}
 use Rattle.tray.proofs.RunLaws.{records-append}
-use Rattle.tray.proofs.TrayLaws.{whole-tray, tray-whole, one-each, done-answer, done-buffer, done-list, written-octets}
+use Rattle.tray.proofs.CallLaws.{whole-tray, tray-whole, done-answer, done-buffer, done-list}
+use Rattle.tray.proofs.TrayLaws.{one-each, written-octets}
 
 -- a record that is there is the same with more behind it
 module _ (a b : List ℕ) (w : whole a ≡ true) where

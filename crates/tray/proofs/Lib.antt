@@ -3,6 +3,7 @@ pub mod CountLaws
 pub mod RecordLaws
 pub mod FillLaws
 pub mod RunLaws
+pub mod CallLaws
 pub mod TrayLaws
 pub mod TurnLaws
 pub mod CutLaws

@@ -10,7 +10,6 @@ use lib.Seq.{drop-at, drop-drop, length-take-le}
 use borrow.Author.Tests.{leb-true, leb-false}
 use borrow.Rule.Slice.PartMut.{midOf, putMid}
 use Rattle.octets.proofs.PartLaws.{tail-of, tail-put}
-use Rattle.refusals.proofs.RefusalLaws.{if-refused, if-taken}
 use Rattle.onward.specs.Onward.{onward}
 use Rattle.onward.specs.Sent.{sentAnswer, sentBuffer}
 use Rattle.onward.specs.declared.Sent.{Sent}

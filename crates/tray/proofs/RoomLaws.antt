@@ -1,26 +1,27 @@
 -- How much room is enough: a buffer as long as the tray. No frame of it is then refused for want of room, and what is written is no longer than the tray.
 use Prim.Native.Nat.{ℕ, zero, suc, _+_, _-_, _≤_}
-use mathlib.Core.Path.{_≡_, refl, sym, ap, ap₂, _∙_}
+use mathlib.Core.Path.{_≡_, refl, ap, ap₂, _∙_}
 use mathlib.Core.Bool.{Bool, true, false}
-use mathlib.Core.List.{List, [], _∷_, _++_, map}
+use mathlib.Core.List.{List, [], _∷_, map}
 use native.Mathlib.Omega.{arith}
 use lib.ListN.{length, take, drop, length-append, length-drop}
 use lib.Seq.{length-take-le}
 use borrow.Author.Tests.{le-ltb}
 use Rattle.octets.specs.Records.{following}
-use Rattle.refusals.specs.Refusals.{_orElse_, refuse, refusal10, refusal15, refusal16}
+use Rattle.refusals.specs.Refusals.{_orElse_, refuse, refusal10, refusal15}
 use Rattle.refusals.proofs.RefusalLaws.{by-taken, by-first}
 use Rattle.frame.specs.Orders.{takenRefusal}
 use Rattle.frame.proofs.FrameLaws.{passes}
 use Rattle.onward.specs.Onward.{onward}
 use Rattle.onward.proofs.OnwardLaws.{onward-length, kept}
 use Rattle.node.specs.Node.{forwardRefusal}
-use Rattle.tray.specs.Tray.{whole, frame, Read, readPast, read, trayRefusal, recordOf, recordsOf, frameRefusal, sentOn, passed, trayAnswer, trayList}
+use Rattle.tray.specs.Tray.{whole, frame, readPast, read, trayRefusal, recordOf, recordsOf, frameRefusal, sentOn, passed, trayAnswer, trayList}
 use Rattle.tray.specs.Turns.{roomyRefusal}
 use Rattle.tray.specs.declared.Forwarded.{Forwarded}
 use Rattle.tray.proofs.ReadLaws.{whole-known, record-length}
 use Rattle.tray.proofs.RunLaws.{records-append, record-taken, record-none}
-use Rattle.tray.proofs.TrayLaws.{sent-within, done-answer, written-numbers}
+use Rattle.tray.proofs.CallLaws.{done-answer}
+use Rattle.tray.proofs.TrayLaws.{sent-within, written-numbers}
 
 -- a tray is as long as the records of its frames and what is left behind them
 frame-size : (r : List ℕ) → whole r ≡ true → length (frame r) ≡ following r - 2

@@ -1,15 +1,14 @@
 -- The frames of a tray under way: a record more is the definition's next step.
-use Prim.Native.Nat.{ℕ, zero, suc, _+_, _-_, _≤_, _<_}
+use Prim.Native.Nat.{ℕ, _+_, _-_, _≤_, _<_}
 use mathlib.Core.Path.{_≡_, refl, sym, ap, ap₂, subst, _∙_}
 use mathlib.Core.Bool.{true}
 use mathlib.Core.List.{List, [], _∷_, _++_, append-assoc, append-nil}
 use native.Mathlib.Omega.{arith}
-use lib.ListN.{length, take, drop, set, length-drop}
+use lib.ListN.{length, take, drop, set}
 use lib.Seq.{drop-drop}
 use borrow.Rule.Slice.PartMut.{midOf, putMid}
 use Rattle.octets.specs.Records.{following}
 use Rattle.octets.proofs.PartLaws.{tail-of, tail-length}
-use Rattle.refusals.specs.Refusals.{ifTaken}
 use Rattle.refusals.proofs.RefusalLaws.{by-taken, if-taken, if-refused}
 use Rattle.onward.specs.Onward.{onward}
 use Rattle.onward.specs.Sent.{sentAnswer, sentBuffer}

@@ -1,41 +1,25 @@
 -- A tray that is not refused: what the call answers and leaves, and that what it writes is a tray.
 use Prim.Native.Nat.{ℕ, suc, _+_, _-_, _≤_, _<_}
-use mathlib.Core.Path.{_≡_, refl, sym, ap, ap₂, _∙_}
-use mathlib.Core.Bool.{Bool, false, _||_}
+use mathlib.Core.Path.{_≡_, refl, ap, ap₂, _∙_}
+use mathlib.Core.Bool.{false}
 use mathlib.Core.List.{List, [], _∷_, _++_}
 use native.Mathlib.Omega.{arith}
-use lib.Dec.{ltb}
 use lib.ListN.{length, take, drop}
 use lib.Seq.{take-at}
-use borrow.Author.Tests.{le-ltb, ltb-false}
-use Rattle.octets.proofs.BoolLaws.{or-false}
-use Rattle.refusals.specs.Refusals.{refuse, ifTaken}
-use Rattle.refusals.proofs.RefusalLaws.{refuse-zero, by-taken, if-taken, if-refused}
+use borrow.Author.Tests.{le-ltb}
+use Rattle.refusals.specs.Refusals.{ifTaken, addressBad}
+use Rattle.refusals.proofs.RefusalLaws.{by-taken, if-refused}
+use Rattle.frame.specs.Orders.{linkRefusal, takenRefusal}
 use Rattle.frame.proofs.FrameLaws.{passes, taken-short}
 use Rattle.onward.specs.Onward.{onward}
-use Rattle.onward.specs.Sent.{sentBuffer}
 use Rattle.onward.proofs.OnwardLaws.{onward-length, kept}
+use Rattle.node.specs.Node.{forwardRefusal}
 use Rattle.node.proofs.ForwardLaws.{forwarded}
-use Rattle.tray.specs.Tray.{Read, read, trayRefusal, recordsOf, Passed, frameRefusal, sentOn, passed, numbers, outgoing, trayAnswer, trayBuffer, trayList}
+use Rattle.tray.specs.Tray.{readPast, read, trayRefusal, recordsOf, frameRefusal, sentOn, passed, numbers, outgoing, trayAnswer, trayBuffer, trayList}
 use Rattle.tray.specs.Turns.{Fit}
 use Rattle.tray.specs.declared.Forwarded.{Forwarded}
 use Rattle.tray.proofs.ReadLaws.{read-records}
-
--- a tray is not refused where nothing is left behind its records and the list has a place for each, and nowhere else
-none-left : (l : List ℕ) → length l ≤ 0 → l ≡ []
-none-left [] h = refl
-none-left (x ∷ l) h = absurd (omega arith)
-
-pub whole-tray : (tray : List ℕ) (places : ℕ) → read tray .left ≡ [] → length (read tray .frames) ≤ places → trayRefusal tray places ≡ 0
-unfolding trayRefusal
-whole-tray tray places l h =
-    ap (λ (b : Bool). refuse (ltb 0 (length (read tray .left)) || b) 27) (le-ltb _ _ h) ∙ ap (λ (r : List ℕ). refuse (ltb 0 (length r) || false) 27) l
-
-pub tray-whole : (tray : List ℕ) (places : ℕ) → trayRefusal tray places ≡ 0 → (read tray .left ≡ []) × (length (read tray .frames) ≤ places)
-unfolding trayRefusal
-tray-whole tray places z =
-    let p = or-false (ltb 0 (length (read tray .left))) (ltb places (length (read tray .frames))) (refuse-zero _ 26 z) in
-    (none-left (read tray .left) (ltb-false _ _ (p .0)), ltb-false _ _ (p .1))
+use Rattle.tray.proofs.CallLaws.{whole-tray, done-answer, done-buffer, done-list}
 
 module _ (level wait addr : ℕ) where
   -- one number for each frame
@@ -66,30 +50,31 @@ module _ (level wait addr : ℕ) where
   sent-fits (f ∷ fs) room = first-fits f room _ (sent-fits fs (room - length (recordsOf (sentOn level wait addr f room))))
 
   module _ (tray out list : List ℕ) (z : trayRefusal tray (length list) ≡ 0) where
-    pub done-answer : trayAnswer level wait addr tray out list
-        ≡ record { refusal = 0; records = length (read tray .frames); written = length (outgoing level wait addr tray (length out)) }
-    unfolding trayAnswer
-    done-answer = if-taken (trayRefusal tray (length list)) _ _ z
-
-    pub done-buffer : trayBuffer level wait addr tray out list ≡ outgoing level wait addr tray (length out) ++ drop (length (outgoing level wait addr tray (length out))) out
-    unfolding trayBuffer sentBuffer
-    done-buffer = if-taken (trayRefusal tray (length list)) _ _ z
-
-    pub done-list : trayList level wait addr tray out list ≡ numbers level wait addr tray (length out) ++ drop (length (numbers level wait addr tray (length out))) list
-    unfolding trayList sentBuffer
-    done-list = if-taken (trayRefusal tray (length list)) _ _ z
-
     pub written-octets : take (trayAnswer level wait addr tray out list .written) (trayBuffer level wait addr tray out list) ≡ outgoing level wait addr tray (length out)
     written-octets =
         let w : List ℕ = outgoing level wait addr tray (length out) in
-        ap₂ (λ (a : Forwarded) (b : List ℕ). take (a .written) b) done-answer done-buffer ∙ take-at w (drop (length w) out) (length w) refl
+        ap₂ (λ (a : Forwarded) (b : List ℕ). take (a .written) b) (done-answer level wait addr tray out list z) (done-buffer level wait addr tray out list z) ∙ take-at w (drop (length w) out) (length w) refl
 
     pub written-numbers : take (trayAnswer level wait addr tray out list .records) (trayList level wait addr tray out list) ≡ numbers level wait addr tray (length out)
     written-numbers =
         let w : List ℕ = numbers level wait addr tray (length out) in
-        ap₂ (λ (a : Forwarded) (b : List ℕ). take (a .records) b) done-answer done-list ∙ take-at w (drop (length w) list) (length (read tray .frames)) (one-each (read tray .frames) (length out))
+        ap₂ (λ (a : Forwarded) (b : List ℕ). take (a .records) b) (done-answer level wait addr tray out list z) (done-list level wait addr tray out list z) ∙ take-at w (drop (length w) list) (length (read tray .frames)) (one-each (read tray .frames) (length out))
 
     -- what is written, read as a tray: the frames that the node sends on, in their order, and nothing left
     pub written-tray : read (take (trayAnswer level wait addr tray out list .written) (trayBuffer level wait addr tray out list))
         ≡ record { frames = passed level wait addr (read tray .frames) (length out) .sent; left = [] }
     written-tray = ap read written-octets ∙ read-records _ (sent-fits (read tray .frames) (length out))
+
+  -- an empty tray is done: no record, nothing written, the list as it came
+  pub empty-tray : (out list : List ℕ)
+      → (trayAnswer level wait addr [] out list ≡ record { refusal = 0; records = 0; written = 0 })
+      × (trayBuffer level wait addr [] out list ≡ out) × (trayList level wait addr [] out list ≡ list)
+  unfolding readPast passed recordsOf
+  empty-tray out list =
+      let z = whole-tray [] (length list) refl (omega arith) in
+      (done-answer level wait addr [] out list z, done-buffer level wait addr [] out list z, done-list level wait addr [] out list z)
+
+  -- a record of length 2 has a frame of no octets: the node refuses it with 1, if not with 10 or 15
+  pub empty-frame : level ≤ 3 → addressBad addr ≡ false → (room : ℕ) → frameRefusal level wait addr [] room ≡ 1
+  unfolding frameRefusal forwardRefusal takenRefusal linkRefusal
+  empty-frame low inside room = simp (le-ltb 3 level low, inside) refl

@@ -4,7 +4,7 @@ use mathlib.Core.Path.{_≡_, refl, sym, ap, ap₂, _∙_}
 use mathlib.Core.List.{List, [], _∷_, _++_, append-nil}
 use native.Mathlib.Omega.{arith}
 use lib.ListN.{length, take, drop, length-drop, take-append-drop}
-use lib.Seq.{take-at, drop-at, drop-drop}
+use lib.Seq.{drop-drop}
 use Rattle.refusals.specs.Refusals.{ifTaken}
 use Rattle.refusals.proofs.RefusalLaws.{by-taken, if-taken, if-refused, if-same}
 use Rattle.onward.specs.Onward.{onward}
@@ -12,12 +12,12 @@ use Rattle.onward.specs.Sent.{sentAnswer, sentBuffer}
 use Rattle.onward.specs.declared.Sent.{Sent}
 use Rattle.onward.proofs.SentLaws.{answered, whole-output}
 use Rattle.node.specs.Node.{forwardRefusal, forwardAnswer, forwardBuffer}
-use Rattle.tray.specs.Tray.{Read, read, trayRefusal, recordHead, recordOf, recordsOf, Passed, withFirst, frameRefusal, sentOn, passed, numbers, outgoing, trayAnswer, trayBuffer, trayList}
+use Rattle.tray.specs.Tray.{Read, read, trayRefusal, recordHead, recordOf, recordsOf, Passed, withFirst, frameRefusal, sentOn, passed, outgoing, trayAnswer, trayBuffer, trayList}
 use Rattle.tray.specs.Turns.{answerOf, writtenOf, leftOf, inTurn}
-use Rattle.tray.specs.declared.Forwarded.{Forwarded}
 use Rattle.tray.proofs.ReadLaws.{read-records, record-length}
 use Rattle.tray.proofs.RunLaws.{record-taken, record-none}
-use Rattle.tray.proofs.TrayLaws.{whole-tray, done-answer, done-buffer, done-list, written-tray, written-numbers}
+use Rattle.tray.proofs.CallLaws.{whole-tray, done-answer, done-buffer, done-list}
+use Rattle.tray.proofs.TrayLaws.{written-tray, written-numbers}
 
 module _ (level wait addr : ℕ) where
   -- the node's call on one frame, by the room

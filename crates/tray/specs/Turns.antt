@@ -1,6 +1,6 @@
 -- Request A8, "the node call on each record in turn": the calls themselves, made one after the other. No promise cites what stands here.
 use Prim.Native.Nat.{ℕ, _+_, _<_}
-use mathlib.Core.List.{List, [], _∷_, _++_}
+use mathlib.Core.List.{List, [], _∷_}
 use lib.ListN.{length, take, drop}
 use Rattle.refusals.specs.Refusals.{_orElse_, ifTaken, refusal10, refusal15}
 use Rattle.frame.specs.Orders.{takenRefusal}

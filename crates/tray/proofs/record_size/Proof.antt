@@ -12,9 +12,9 @@ use Rattle.tray.proofs.record_size.Statement.{statement}
 use Rattle.tray.proofs.record_size.Tie as tie
 
 -- of length and kind as they were read
-judged : (r : List ℕ) (n k : ℕ) → n ≡ following r → k ≡ kind r → cond (eqb k 1 && leb 2 n && leb (2 + n) (length r)) (2 + n) 0 ≡ recordSize r
+judged : (r : List ℕ) (n k size : ℕ) → n ≡ following r → k ≡ kind r → size ≡ cond (eqb k 1 && leb 2 n && leb (2 + n) (length r)) (2 + n) 0 → size ≡ recordSize r
 unfolding recordSize whole
-judged r n k pn pk = ap₂ (λ (x y : ℕ). cond (eqb x 1 && leb 2 y && leb (2 + y) (length r)) (2 + y) 0) pk pn
+judged r n k size pn pk e = e ∙ ap₂ (λ (x y : ℕ). cond (eqb x 1 && leb 2 y && leb (2 + y) (length r)) (2 + y) 0) pk pn
 
 two-octets-requires : tie.Need-two-octets-requires
 two-octets-requires c κs = tt
@@ -35,7 +35,7 @@ returns : tie.Need-returns
 returns c =
     let k = c .before .two-octets2 in
     let n = c .before .before .two-octets in
-    c .pick .ensures ∙ judged (c .before .before .before .before .args .rest .now) (n .result) (k .result) (n .ensures .0) (k .ensures .0)
+    judged (c .before .before .before .before .args .rest .now) (n .result) (k .result) (c .pick .result) (n .ensures .0) (k .ensures .0) (c .pick .ensures)
 
 pub record-size-spec : {M : Type 1} → statement M
 record-size-spec =
