@@ -134,7 +134,7 @@ module _ (level wait addr : ℕ) (tray out₀ list₀ out list : List ℕ) (at w
       refusal-sent : sent .refusal ≡ frameRefusal level wait addr (frame (drop at tray)) (length out₀ - written)
       refusal-sent = ap (λ (s : Sent). s .refusal) ea ∙ answered _ _ ∙ same-step .0
 
-      pub run-room : written + sent .length ≤ length out₀
+      run-room : written + sent .length ≤ length out₀
       run-room = omega (arith, size-sent, added-fits level wait addr (frame (drop at tray)) (length out₀ - written), run .octets .room)
 
       -- the definition's next step

@@ -1,10 +1,15 @@
-use Prim.Native.Nat.{_-_}
+use Prim.Native.Nat.{_+_, _-_, _≤_}
 use native.Mathlib.Omega.{arith}
+use lib.ListN.{length}
 use Rattle.onward.specs.Onward.{waitOf}
-use Rattle.tray.proofs.RunLaws.{Run, run-start, run-size, run-room, run-next, run-over}
+use Rattle.tray.proofs.RunLaws.{Run, run-start, run-size, run-next, run-over}
 use borrow.Author.Needs.{needs}
 use Rattle.tray.proofs.forward_records.Statement.{statement}
 use Rattle.tray.proofs.forward_records.Tie as tie
+use Rattle.tray.proofs.forward_records.Reads as reads
+use Rattle.tray.proofs.forward_records.Lts as lts
+use Rattle.octets.proofs.two_octets.Reads as two-octets-reads
+use Rattle.tray.proofs.forward_record.Reads as forward-record-reads
 
 abbrev Inv-loop : tie.InvT-loop
 Inv-loop tray count level from to address out₀ list₀ at₀ written₀ i₀ out list at written i =
@@ -36,41 +41,28 @@ add-end c = search needs
 add-end-2 : tie.Need-add-end-2 Inv-loop μ-loop
 add-end-2 c = search needs
 
-add-forward-record : tie.Need-add-forward-record Inv-loop μ-loop
-add-forward-record c =
+-- the record that is next lies within the tray
+here : (c : lts.After-two-octets (two-octets-reads.Asked, two-octets-reads.Learnt, forward-record-reads.Asked, forward-record-reads.Learnt) reads.Pre reads.Post Inv-loop μ-loop)
+    → (4 ≤ 2 + c .two-octets .result)
+    × (c .before .before .before .loop .at + (2 + c .two-octets .result) ≤ length (c .before .before .before .before .before .before .before .args .tray .now))
+here c =
     let m = c .before .before in
     let l = m .before .loop in
     let b = m .before .before .before .before .before in
     let a = b .args in
-    let z = run-size (a .level) (waitOf (a .from) (a .to)) (a .address) (a .tray .now) (a .out .now) (a .list .now) (l .out) (l .list) (l .at) (l .written) (l .i) (l .inv) (omega (arith, m .loop-test .taken, b .pre .0)) (c .two-octets .result) (c .two-octets .ensures .0) in
-    omega (arith, z .0, z .1)
+    run-size (a .level) (waitOf (a .from) (a .to)) (a .address) (a .tray .now) (a .out .now) (a .list .now) (l .out) (l .list) (l .at) (l .written) (l .i) (l .inv) (omega (arith, m .loop-test .taken, b .pre .0)) (c .two-octets .result) (c .two-octets .ensures .0)
+
+add-forward-record : tie.Need-add-forward-record Inv-loop μ-loop
+add-forward-record c = let z = here c in omega (arith, z .0, z .1)
 
 sub-forward-record : tie.Need-sub-forward-record Inv-loop μ-loop
-sub-forward-record c =
-    let m = c .before .before in
-    let l = m .before .loop in
-    let b = m .before .before .before .before .before in
-    let a = b .args in
-    let z = run-size (a .level) (waitOf (a .from) (a .to)) (a .address) (a .tray .now) (a .out .now) (a .list .now) (l .out) (l .list) (l .at) (l .written) (l .i) (l .inv) (omega (arith, m .loop-test .taken, b .pre .0)) (c .two-octets .result) (c .two-octets .ensures .0) in
-    omega (arith, z .0, z .1)
+sub-forward-record c = let z = here c in omega (arith, z .0, z .1)
 
 part-forward-record-start : tie.Need-part-forward-record-start Inv-loop μ-loop
-part-forward-record-start c =
-    let m = c .before .before in
-    let l = m .before .loop in
-    let b = m .before .before .before .before .before in
-    let a = b .args in
-    let z = run-size (a .level) (waitOf (a .from) (a .to)) (a .address) (a .tray .now) (a .out .now) (a .list .now) (l .out) (l .list) (l .at) (l .written) (l .i) (l .inv) (omega (arith, m .loop-test .taken, b .pre .0)) (c .two-octets .result) (c .two-octets .ensures .0) in
-    omega (arith, z .0, z .1)
+part-forward-record-start c = let z = here c in omega (arith, z .0, z .1)
 
 part-forward-record-end : tie.Need-part-forward-record-end Inv-loop μ-loop
-part-forward-record-end c =
-    let m = c .before .before in
-    let l = m .before .loop in
-    let b = m .before .before .before .before .before in
-    let a = b .args in
-    let z = run-size (a .level) (waitOf (a .from) (a .to)) (a .address) (a .tray .now) (a .out .now) (a .list .now) (l .out) (l .list) (l .at) (l .written) (l .i) (l .inv) (omega (arith, m .loop-test .taken, b .pre .0)) (c .two-octets .result) (c .two-octets .ensures .0) in
-    omega (arith, z .0, z .1)
+part-forward-record-end c = let z = here c in omega (arith, z .0, z .1)
 
 sub-forward-record-2 : tie.Need-sub-forward-record-2 Inv-loop μ-loop
 sub-forward-record-2 c = search needs
@@ -87,22 +79,6 @@ forward-record-requires c κs = tt
 slice-write-list : tie.Need-slice-write-list Inv-loop μ-loop
 slice-write-list c = search needs
 
-add-written : tie.Need-add-written Inv-loop μ-loop
-add-written c =
-    let w = c .before .before .before in
-    let t = w .before .before .before in
-    let m = t .before .before in
-    let l = m .before .loop in
-    let b = m .before .before .before .before .before in
-    let a = b .args in
-    omega (arith, b .good .1 .1 .1 .1 .1 .1 .0 .0, run-room (a .level) (waitOf (a .from) (a .to)) (a .address) (a .tray .now) (a .out .now) (a .list .now) (l .out) (l .list) (l .at) (l .written) (l .i) (l .inv) (omega (arith, m .loop-test .taken, b .pre .0)) (t .two-octets .result) (t .two-octets .ensures .0) (w .forward-record .result) (w .forward-record .last .1 .1 .1 .1 .1 .0) (w .forward-record .ensures .0) (w .forward-record .ensures .1))
-
-add-i : tie.Need-add-i Inv-loop μ-loop
-add-i c = search needs
-
-loop-less : tie.Need-loop-less Inv-loop μ-loop
-loop-less c = search needs
-
 loop-again : tie.Need-loop-again Inv-loop μ-loop
 loop-again c =
     let w = c .before .before .before in
@@ -112,6 +88,17 @@ loop-again c =
     let b = m .before .before .before .before .before in
     let a = b .args in
     run-next (a .level) (waitOf (a .from) (a .to)) (a .address) (a .tray .now) (a .out .now) (a .list .now) (l .out) (l .list) (l .at) (l .written) (l .i) (l .inv) (omega (arith, m .loop-test .taken, b .pre .0)) (t .two-octets .result) (t .two-octets .ensures .0) (w .forward-record .result) (w .forward-record .last .1 .1 .1 .1 .1 .0) (w .forward-record .ensures .0) (w .forward-record .ensures .1) (omega (arith, m .loop-test .taken, b .pre .1))
+
+add-written : tie.Need-add-written Inv-loop μ-loop
+add-written c =
+    let b = c .before .before .before .before .before .before .before .before .before .before .before .before .before in
+    omega (arith, b .good .1 .1 .1 .1 .1 .1 .0 .0, loop-again c .octets .room)
+
+add-i : tie.Need-add-i Inv-loop μ-loop
+add-i c = search needs
+
+loop-less : tie.Need-loop-less Inv-loop μ-loop
+loop-less c = search needs
 
 same-length : tie.Need-same-length Inv-loop μ-loop
 same-length c = c .before .loop .inv .octets .same
