@@ -31,7 +31,9 @@ pub fn less(a: usize, b: usize) -> usize
 pub fn two_octets(s: &[u8], n: usize) -> usize
     ensures { λ r. ⌜ (r ≡ two n (now (s .entry))) × (r < 65536) ⌝ }
 {
-    at(s, less(n, 1)) + 256 * at(s, n)
+    let low = at(s, less(n, 1));
+    let high = at(s, n);
+    low + 256 * high
 }
 
 pub fn lesser(a: usize, b: usize) -> usize
