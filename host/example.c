@@ -2,7 +2,8 @@
  * see them: what each frame weighs on the way, when it is played and what is left of the voice. The
  * stop packet of the second comes late. The signalling of a trunk that dies and comes back, and a frame of
  * a foreign unit that sets the poll bit. Three frames on a line of bare bits, one of them damaged there. Three
- * that wait at a node until its line is ready. And what each level would give back of three others. */
+ * that wait at a node until its line is ready. What each level would give back of three others. And a tray of
+ * three, one of them damaged, that goes through two nodes. */
 
 #include <stdio.h>
 #include <string.h>
@@ -287,6 +288,63 @@ static int congested_node(void)
     return 0;
 }
 
+/* Lays a frame in a tray behind what is there already, and gives the octets that the tray then has. */
+static size_t lay(uint8_t *tray, size_t octets, const frame *laid)
+{
+    size_t length = laid->length + 2; /* the kind is counted */
+    const uint8_t head[PELGRANT_TRAY_HEAD] = {(uint8_t)(length & 255), (uint8_t)(length >> 8), PELGRANT_TRAY_FRAME, 0};
+    memcpy(tray + octets, head, sizeof head);
+    memcpy(tray + octets + sizeof head, laid->octets, laid->length);
+    return octets + sizeof head + laid->length;
+}
+
+static void show_records(const uint8_t *tray, size_t octets)
+{
+    for (size_t at = 0; at < octets;) {
+        const uint8_t *head = tray + at, *voice = head + PELGRANT_TRAY_HEAD;
+        size_t length = (size_t)(head[0] | head[1] << 8);
+        printf("  %3d %d %d %d  %8d  %6zu  %5d  %7d\n", head[0], head[1], head[2], head[3], voice[7] >> 4, length - 2,
+            voice[5], (voice[0] >> 2 << 7) | (voice[1] >> 1));
+        at += 2 + length;
+    }
+}
+
+/* Two voice frames and a damaged one between them lie in a tray. One call sends the two on and says what became of
+ * each of the three. What it writes is a tray again, and goes to the next node as it is. */
+static int tray_of_frames(void)
+{
+    enum { NODES = 2, TYPE_24 = 24, TRAY = FRAMES * (PELGRANT_TRAY_HEAD + PELGRANT_FRAME_MAX) };
+    static const struct { uint8_t level; uint32_t wait; uint16_t address; } nodes[NODES] = {{1, 5, 300}, {1, 7, 4711}};
+    uint8_t tray[TRAY], out[TRAY], list[FRAMES], sseq = 0;
+    uint64_t answer[2];
+    size_t octets = 0;
+    for (int n = 0; n < FRAMES; n++) {
+        frame made;
+        uint8_t number = origin(&made, &sseq, n, TYPE_24, 0);
+        if (number != 0)
+            return refused("the origin", number);
+        if (n == 1)
+            made.octets[5] ^= 64; /* the damage */
+        octets = lay(tray, octets, &made);
+    }
+
+    printf("\nA tray of three frames, one of them damaged\n");
+    for (int n = 0; n < NODES; n++) {
+        uint8_t number = pelgrant_forward_tray(tray, octets, nodes[n].level, 0, nodes[n].wait, nodes[n].address,
+            out, sizeof out, list, sizeof list, answer, 2);
+        if (number != 0)
+            return refused("the tray", number);
+        printf("\nnode %d: %zu octets came, %llu are written; numbers", n + 1, octets, (unsigned long long)answer[1]);
+        for (uint64_t record = 0; record < answer[0]; record++)
+            printf(" %u", list[record]);
+        printf("\n  head       sequence  octets  delay  address\n");
+        octets = (size_t)answer[1];
+        memcpy(tray, out, octets);
+        show_records(tray, octets);
+    }
+    return 0;
+}
+
 static void heading(const char *title)
 {
     printf("%s\n\nstep   sequence  octets sent  after node 1  after node 2  delay  arrives   due  dropped  reset"
@@ -391,5 +449,5 @@ int main(void)
     if (trunk() != 0)
         return 1;
     foreign_unit();
-    return bare_bits(&line.came) != 0 || waiting_room() != 0 || congested_node() != 0;
+    return bare_bits(&line.came) != 0 || waiting_room() != 0 || congested_node() != 0 || tray_of_frames() != 0;
 }

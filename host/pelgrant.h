@@ -1,6 +1,6 @@
 /* The calls of the card, for a host in C. Document 01 is the law of what they do, as requests A2 and A5
  * of document 02 amend it; for the two calls of the signalling watch it is request A1, for the two of a
- * line of bits request A4, for the four of a waiting room requests A6 and A7.
+ * line of bits request A4, for the four of a waiting room requests A6 and A7, for a tray request A8.
  *
  * Every call takes any octets and any numbers, comes to an end and gives a refusal number of
  * those documents, 0 when done. Where several apply, the one that stands first in the call's order,
@@ -16,8 +16,8 @@
  * may be longer than is needed; the rest of it is left alone. In the orders below this first 16 is
  * written "16 (answer)".
  *
- * A refused call leaves SSEQ, the record, the watch, the line, the store, the queue and the buffer for a
- * frame as they came, but for one thing: an arrival refused with 17 or 20 still stores the frame's more bit
+ * A refused call leaves SSEQ, the record, the watch, the line, the store, the queue, the list and the buffer
+ * for what is sent as they came, but for one thing: an arrival refused with 17 or 20 still stores the frame's more bit
  * and noise in the record. A frame written leaves the rest of its buffer as it was, on a line to the bit.
  *
  * A frame is the octets between two flags, zero bits taken out: 10 to 490 octets. None that the origin or
@@ -42,6 +42,10 @@
  * fits an octet. The three totals say what levels 1, 2 and 3 would give back: of each voice frame that
  * waits, 16 octets times the lesser of its C and the level, and of signalling nothing. They are so as long
  * as the host writes over neither queue nor store.
+ *
+ * A tray is records, one behind the other and nothing else: a length, counting what follows it, and a kind,
+ * PELGRANT_TRAY_FRAME, both two octets with the low one first, and then the frame, PELGRANT_TRAY_HEAD octets
+ * from its record's beginning. So the length is the frame's and 2.
  */
 #ifndef PELGRANT_H
 #define PELGRANT_H
@@ -62,7 +66,9 @@ enum {
     PELGRANT_QUEUE = 70,           /* numbers in a queue */
     PELGRANT_QUEUE_FRAMES = 32,    /* that may wait in one */
     PELGRANT_STORE_MAX = 16384,    /* octets of the longest store */
-    PELGRANT_TOTAL_MAX = 1536      /* octets that a level gives back of 32 frames at the most */
+    PELGRANT_TOTAL_MAX = 1536,     /* octets that a level gives back of 32 frames at the most */
+    PELGRANT_TRAY_HEAD = 4,        /* octets of a record before its frame */
+    PELGRANT_TRAY_FRAME = 1        /* the kind of a record */
 };
 
 /* The steps of a burst. */
@@ -142,6 +148,23 @@ uint8_t pelgrant_signal_write(uint8_t bits, uint8_t na, uint32_t from, uint32_t 
  * Untouched: frame; the rest of out; where refused, all of it. */
 uint8_t pelgrant_forward(const uint8_t *frame, size_t frame_len, uint8_t level, uint32_t from, uint32_t to,
     uint16_t address, uint8_t *out, size_t out_len, uint64_t *answer, size_t answer_len);
+
+/* A node sends a tray of frames on: pelgrant_forward on each, in their order, with the room that is then left
+ * of out after the four octets of its record; where fewer than four are left, with no room. A frame that is
+ * refused writes nothing and keeps no room; those behind it are tried all the same.
+ * Lent: the tray; level, wait and outgoing address, the same for each frame; out, for the outgoing tray;
+ *   list, a number for each record.
+ * Back: answer[0] the records of the tray, answer[1] the octets written to out; in list the refusal of each
+ *   record's frame, 0 where it is sent on; in out the records of the frames sent on. A buffer as long as the
+ *   tray has room for all of them.
+ * Refusals of the tray: 16 (answer below 2), 27 where a record is cut short, of another kind or of a length
+ *   under 2, or list is shorter than the records are many. An empty tray is none of these. Of a frame, in
+ *   list: 10, 15, 1, 2, 3, 24, 4, 5, 6 (voice only), 7, 8, 9, 16.
+ * Untouched: tray; out past the octets written, list past the last record; where the tray is refused, all of
+ *   both. */
+uint8_t pelgrant_forward_tray(const uint8_t *tray, size_t tray_len, uint8_t level, uint32_t from, uint32_t to,
+    uint16_t address, uint8_t *out, size_t out_len, uint8_t *list, size_t list_len,
+    uint64_t *answer, size_t answer_len);
 
 /* Reads a voice frame without a record or a clock.
  * Lent: the frame.

@@ -113,6 +113,10 @@ calls! {
     "pelgrant_forward" forward(
         frame: &[u8], level: u8, from: u32, to: u32, address: u16, out: &mut [u8], answer: &mut [u64],
     );
+    "pelgrant_forward_tray" forward_tray(
+        tray: &[u8], level: u8, from: u32, to: u32, address: u16, out: &mut [u8], list: &mut [u8],
+        answer: &mut [u64],
+    );
     "pelgrant_read" read(frame: &[u8], answer: &mut [u64], samples: &mut [u8],);
     "pelgrant_fresh" fresh(build_out: u8, record: &mut [u64],);
     "pelgrant_arrive" arrive(

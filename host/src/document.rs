@@ -28,7 +28,7 @@ const PACKET_MS: u64 = 16;
 /// A frame is due at most this long after the clock, so `end` is at most 16 ms more.
 const AHEAD_MAX: u64 = 439;
 
-/// The refusal numbers of document 01, and 21 to 26 of document 02.
+/// The refusal numbers of document 01, and 21 to 27 of document 02.
 #[derive(Clone, Copy, Debug, PartialEq, Eq)]
 #[repr(u8)]
 pub enum Refusal {
@@ -58,6 +58,7 @@ pub enum Refusal {
     CommandOrPoll = 24,
     NoRoom = 25,
     NothingWaits = 26,
+    Tray = 27,
 }
 
 use Refusal::*;

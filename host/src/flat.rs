@@ -1,5 +1,5 @@
-//! Document 01, the signalling watch, the line of bits and the waiting room in the flat form of `pelgrant.h`:
-//! numbers and lent slices.
+//! Document 01, the signalling watch, the line of bits, the waiting room and the tray in the flat form of
+//! `pelgrant.h`: numbers and lent slices.
 //!
 //! Only this form can be lent an answer slice too short (16), a step (13) or an event (21) that is
 //! none, or a record of another length or with a number that fits no field (14); they are judged
@@ -9,6 +9,7 @@
 use crate::document::{self, Departure, Endpoint, Kind, Packet, Refusal, Scheduled, Step, SAMPLES};
 use crate::line::{self, Frame, Unread};
 use crate::queue::{self, QUEUE};
+use crate::tray::{self, Passed};
 use crate::watch::{Cause, Conditioning, Event, Originating, Terminating, Told, Watch};
 use crate::Calls;
 
@@ -186,6 +187,17 @@ impl Calls for Document {
         }
         let sent_on = document::forward(frame, level, &Departure { from, to, address }, out);
         answered(sent_on.map(|length| [length as u64]), answer)
+    }
+
+    fn forward_tray(
+        &self, tray: &[u8], level: u8, from: u32, to: u32, address: u16, out: &mut [u8], list: &mut [u8],
+        answer: &mut [u64],
+    ) -> u8 {
+        if answer.len() < 2 {
+            return SHORT;
+        }
+        let passed = tray::forward(tray, level, &Departure { from, to, address }, out, list);
+        answered(passed.map(|Passed { records, written }| [records as u64, written as u64]), answer)
     }
 
     fn read(&self, frame: &[u8], answer: &mut [u64], samples: &mut [u8]) -> u8 {
@@ -397,6 +409,31 @@ mod tests {
                 let mut record = inside;
                 record[field] = number;
                 left(14, &record, &stop, 1103);
+            }
+        }
+    }
+
+    #[test]
+    fn trays_in_numbers() {
+        // Two signalling frames, the second with a wrong check.
+        let frames = [[4, 3, 3, 68, 0, 24, 0, 10, 129, 49], [4, 3, 3, 68, 0, 24, 0, 10, 129, 48]];
+        let tray = frames.map(|frame| [&[12, 0, 1, 0], &frame[..]].concat()).concat();
+        let pass = |tray: &[u8], level, room, slots| {
+            let (mut out, mut list, mut answer) = (vec![0xFF; room], vec![0xFF; slots], [UNUSED; 3]);
+            let number = Document.forward_tray(tray, level, 0, 0, 129, &mut out, &mut list, &mut answer);
+            (number, answer, list, out)
+        };
+        let sent_on = [&tray[..14], &[0xFF; 2]].concat();
+        assert_eq!(pass(&tray, 0, 16, 3), (0, [2, 14, UNUSED], vec![0, 4, 0xFF], sent_on));
+        assert_eq!(pass(&tray, 4, 2, 2), (0, [2, 0, UNUSED], vec![10, 10], vec![0xFF; 2]));
+        assert_eq!(pass(&tray, 0, 16, 1), (27, [0, 0, UNUSED], vec![0xFF], vec![0xFF; 16]));
+        assert_eq!(pass(&tray[..27], 4, 16, 3), (27, [0, 0, UNUSED], vec![0xFF; 3], vec![0xFF; 16]));
+        assert_eq!(pass(&[], 4, 1, 0), (0, [0, 0, UNUSED], vec![], vec![0xFF]));
+        for slots in [0, 1] {
+            let (mut out, mut list, mut answer) = ([0xFF; 16], [0xFF; 2], vec![UNUSED; slots]);
+            for tray in [&tray[..], &tray[..1]] {
+                assert_eq!(Document.forward_tray(tray, 0, 0, 0, 129, &mut out, &mut list, &mut answer), 16);
+                assert_eq!((out, list, &answer), ([0xFF; 16], [0xFF; 2], &vec![UNUSED; slots]));
             }
         }
     }

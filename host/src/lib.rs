@@ -1,6 +1,6 @@
-//! The host's side of the card: document 01, the signalling watch, the line of bits and the waiting room in
-//! plain Rust, and the proved library beside them under one trait, so that the same program can call, compare
-//! and time both.
+//! The host's side of the card: document 01, the signalling watch, the line of bits, the waiting room and the
+//! tray in plain Rust, and the proved library beside them under one trait, so that the same program can call,
+//! compare and time both.
 
 pub mod document;
 pub mod flat;
@@ -8,6 +8,7 @@ pub mod line;
 pub mod queue;
 pub mod random;
 pub mod ring;
+pub mod tray;
 pub mod watch;
 
 #[cfg(feature = "card")]
@@ -30,6 +31,10 @@ pub trait Calls {
     ) -> u8;
     fn forward(
         &self, frame: &[u8], level: u8, from: u32, to: u32, address: u16, out: &mut [u8], answer: &mut [u64],
+    ) -> u8;
+    fn forward_tray(
+        &self, tray: &[u8], level: u8, from: u32, to: u32, address: u16, out: &mut [u8], list: &mut [u8],
+        answer: &mut [u64],
     ) -> u8;
     fn read(&self, frame: &[u8], answer: &mut [u64], samples: &mut [u8]) -> u8;
     fn fresh(&self, build_out: u8, record: &mut [u64]) -> u8;

@@ -38,6 +38,8 @@ const WAITING_MARK: f64 = 1.25;
 /// How many others wait in those measurements, and how many wait where a question is asked.
 const OTHERS: [usize; 4] = [0, 1, 16, 31];
 const WAITING: [usize; 2] = [0, 32];
+/// The records of the trays that are measured.
+const RECORDS: usize = 32;
 /// How much longer than itself the same thing may seem to take.
 const NOISE: f64 = 1.05;
 
@@ -510,6 +512,77 @@ impl WaitingRooms {
     }
 }
 
+/// Trays by the card beside a host that calls the card frame by frame and beside the plain Rust, with what took longer.
+#[derive(Default)]
+struct Trays {
+    above: Vec<String>,
+    refused_above: Vec<String>,
+}
+
+impl Trays {
+    fn table(&mut self) {
+        let (voice, signalling, dropping) = (voice(TYPE_S8), signalling(), voice(TYPE_21));
+        let wrong = spoiled(voice.clone());
+        let every_fourth: Vec<Vec<u8>> =
+            (1..=RECORDS).map(|record| if record % 4 == 0 { &wrong } else { &voice }.clone()).collect();
+        let all = |frame: &Vec<u8>| Tray::of(&vec![frame.clone(); RECORDS], HOP);
+        println!(
+            "| Tray of {RECORDS} | Octets | Card, ns | Frame by frame, ns | Ratio | Rust, ns | Ratio \
+             | Card, ns a record | frame by frame, ns a record |"
+        );
+        println!("|---|---:|---:|---:|---:|---:|---:|---:|---:|");
+        self.done("voice, type 0", &all(&voice));
+        self.done("signalling", &all(&signalling));
+        self.done("voice, type 21, level 3", &Tray { hop: Hop { level: 3, ..HOP }, ..all(&dropping) });
+        self.done("voice, type 0, every fourth refused with 4", &Tray::of(&every_fourth, HOP));
+        self.done("voice, type 0, all refused with 10", &Tray { hop: Hop { level: 4, ..HOP }, ..all(&voice) });
+        self.done("voice, type 0, all refused with 16", &Tray { room: 0, ..all(&voice) });
+        for (what, frame) in [("voice, type 0", &voice), ("signalling", &signalling)] {
+            let mut other_kind = all(frame);
+            let last = other_kind.octets.len() - frame.len() - 2;
+            other_kind.octets[last] = 2;
+            self.refused(&format!("{what}, 27 for its last record"), &other_kind);
+            self.refused(&format!("{what}, 27 for its list"), &Tray { records: RECORDS - 1, ..all(frame) });
+        }
+    }
+
+    /// A tray that is done, whatever the numbers in its list. All three have to make the same of it.
+    fn done(&mut self, what: &str, tray: &Tray) {
+        let right = tray.sent_on(&Document);
+        assert_eq!(right.0, 0);
+        assert!(tray.sent_on(&Card) == right && tray.sent_singly(&Card) == right, "{what}");
+        let [card, rust] = both!(forward_tray, 0, tray);
+        let [card, singly, rust] = best([card, frame_by_frame(Card, 0, tray), rust]);
+        let a_record = |time: f64| time / RECORDS as f64;
+        println!(
+            "| {what} | {} | {card:.1} | {singly:.1} | {:.2} | {rust:.1} | {:.2} | {:.1} | {:.1} |",
+            tray.octets.len(),
+            ratio(card, singly),
+            ratio(card, rust),
+            a_record(card),
+            a_record(singly)
+        );
+        if ratio(card, singly) > DONE_MARK || ratio(card, rust) > DONE_MARK {
+            let beside = format!("; frame by frame {singly:.1} ns, ratio {:.2}", ratio(card, singly));
+            self.above.push(above(what, card, rust) + &beside);
+        }
+    }
+
+    /// A tray that is refused whole. A host that goes frame by frame has sent most of it on by then.
+    fn refused(&mut self, what: &str, tray: &Tray) {
+        let [card, rust] = best(both!(forward_tray, 27, tray));
+        println!(
+            "| {what} | {} | {card:.1} | - | - | {rust:.1} | {:.2} | {:.1} | - |",
+            tray.octets.len(),
+            ratio(card, rust),
+            card / RECORDS as f64
+        );
+        if ratio(card, rust) > REFUSED_MARK {
+            self.refused_above.push(above(what, card, rust));
+        }
+    }
+}
+
 /// What the columns of the foreign stacks are, or that there are none.
 fn foreign_note() -> String {
     let missing: Vec<&str> = NAMES.into_iter().filter(|name| STACKS.iter().all(|stack| stack.name != *name)).collect();
@@ -608,6 +681,16 @@ fn main() {
     );
     let mut waiting_rooms = WaitingRooms::default();
     waiting_rooms.table();
+    println!("\n## Trays\n");
+    println!(
+        "A tray of {RECORDS} records in one call, with a buffer as long as the tray unless another is named. Frame by \
+         frame is a host in Rust that has the card's forward alone: in one pass it reads each head, calls the card with \
+         the room that is left, writes the outgoing head and the number in the list. Unlike the tray's call it finds a \
+         record that is none only when it comes to it. What all three make of each tray that is done is compared \
+         before it is timed. Nanoseconds a tray.\n"
+    );
+    let mut trays = Trays::default();
+    trays.table();
     println!("\n## Above the marks\n");
     list(
         &format!(
@@ -631,4 +714,8 @@ fn main() {
          its shortest"
     );
     list(&title, &waiting_rooms.above);
+    println!();
+    list(&format!("Trays, above {DONE_MARK:.2} times the host frame by frame or the Rust"), &trays.above);
+    println!();
+    list(&format!("Trays refused with 27, above {REFUSED_MARK:.2} times the Rust"), &trays.refused_above);
 }

@@ -3,9 +3,10 @@
 //! What is lent stands in vectors, not in arrays, so that its length is hidden with the rest.
 
 use crate::timing::{repeated, Work};
-use pelgrant_host::document::{Coding, SAMPLES};
+use pelgrant_host::document::{Coding, Departure, SAMPLES};
 use pelgrant_host::foreign::Stack;
 use pelgrant_host::queue::{given_back, CLOCKS, COUNT, LENGTHS, LEVELS, QUEUE, TOTALS};
+use pelgrant_host::tray::{self, Passed};
 use pelgrant_host::yardstick::Yardstick;
 use pelgrant_host::Calls;
 
@@ -199,6 +200,69 @@ pub fn queue_freed<C: Calls + 'static>(calls: C, number: u8, room: &Room, level:
     repeated(number, (room.queue.clone(), level, vec![0]), move |(queue, level, answer)| {
         calls.queue_freed(queue, *level, answer)
     })
+}
+
+// ---- Trays: all records of one at a time ----
+
+/// A tray and what is lent with it.
+#[derive(Clone)]
+pub struct Tray {
+    pub octets: Vec<u8>,
+    pub records: usize,
+    pub hop: Hop,
+    pub room: usize,
+}
+
+impl Tray {
+    /// With as much room as any level leaves need of.
+    pub fn of(frames: &[Vec<u8>], hop: Hop) -> Tray {
+        let record = |frame: &Vec<u8>| [&(frame.len() as u16 + 2).to_le_bytes()[..], &[1, 0], frame].concat();
+        let octets: Vec<u8> = frames.iter().flat_map(record).collect();
+        Tray { records: frames.len(), hop, room: octets.len(), octets }
+    }
+
+    fn lent(&self) -> (Vec<u8>, Hop, Vec<u8>, Vec<u8>) {
+        (self.octets.clone(), self.hop, vec![0; self.room], vec![0; self.records])
+    }
+
+    /// What a call makes of it: the number, what is written, the list and the answer.
+    pub fn sent_on(&self, calls: &impl Calls) -> (u8, Vec<u8>, Vec<u8>, [u64; 2]) {
+        let ((octets, hop, mut out, mut list), mut answer) = (self.lent(), [0; 2]);
+        let Hop { level, from, to, address } = hop;
+        let number = calls.forward_tray(&octets, level, from, to, address, &mut out, &mut list, &mut answer);
+        (number, out, list, answer)
+    }
+
+    /// The same frame by frame.
+    pub fn sent_singly(&self, calls: &impl Calls) -> (u8, Vec<u8>, Vec<u8>, [u64; 2]) {
+        let ((octets, hop, mut out, mut list), mut answer) = (self.lent(), [0; 2]);
+        let number = singly(calls, &octets, &hop, &mut out, &mut list, &mut answer);
+        (number, out, list, answer)
+    }
+}
+
+pub fn forward_tray<C: Calls + 'static>(calls: C, number: u8, tray: &Tray) -> Work {
+    repeated(number, (tray.lent(), vec![0; 2]), move |((tray, hop, out, list), answer)| {
+        calls.forward_tray(tray, hop.level, hop.from, hop.to, hop.address, out, list, answer)
+    })
+}
+
+/// A host that has the node's call alone.
+pub fn frame_by_frame<C: Calls + 'static>(calls: C, number: u8, tray: &Tray) -> Work {
+    repeated(number, (tray.lent(), [0; 2]), move |((tray, hop, out, list), answer)| {
+        singly(&calls, tray, hop, out, list, answer)
+    })
+}
+
+fn singly(calls: &impl Calls, tray: &[u8], hop: &Hop, out: &mut [u8], list: &mut [u8], answer: &mut [u64; 2]) -> u8 {
+    let &Hop { level, from, to, address } = hop;
+    match tray::frame_by_frame(calls, tray, level, &Departure { from, to, address }, out, list) {
+        Ok(Passed { records, written }) => {
+            *answer = [records as u64, written as u64];
+            0
+        }
+        Err(refusal) => refusal as u8,
+    }
 }
 
 // ---- Lines: all frames of one at a time ----

@@ -8,7 +8,7 @@ pub const CLOCK_MAX: u64 = 1 << 62;
 pub const LEGAL_CODINGS: [u8; 17] = [0, 1, 2, 3, 4, 5, 6, 7, 8, 9, 10, 11, 12, 13, 20, 21, 24];
 
 /// The greatest of the calls' own refusals.
-const LAST: usize = 26;
+const LAST: usize = 27;
 /// The refusals that only the flat form has, counted apart from those.
 pub const FLAT_13: usize = LAST + 1;
 pub const FLAT_14: usize = LAST + 2;

@@ -90,9 +90,11 @@ pub struct Lent {
     pub store: Guarded<u8>,
     pub queue: Guarded<u32>,
     pub frame: Guarded<u8>,
+    pub tray: Guarded<u8>,
     pub noise: Guarded<u8>,
     pub samples: Guarded<u8>,
     pub out: Guarded<u8>,
+    pub list: Guarded<u8>,
     pub answer: Guarded<u64>,
     pub level: Guarded<f64>,
 }
@@ -125,9 +127,11 @@ impl Lent {
             ("store", self.store == other.store),
             ("queue", self.queue == other.queue),
             ("frame", self.frame == other.frame),
+            ("tray", self.tray == other.tray),
             ("noise", self.noise == other.noise),
             ("samples", self.samples == other.samples),
             ("out", self.out == other.out),
+            ("list", self.list == other.list),
             ("answer", self.answer == other.answer),
             ("level", bits(self) == bits(other)),
         ];

@@ -2,8 +2,9 @@
 //! all that comes back: the number, the answers, and every octet lent and around it.
 //!
 //! `differential [INPUTS [SEED]]`: INPUTS for each call, more for the events of a watch, fewer for the
-//! calls of a line and of a waiting room, a tenth as many chains, fewer again for each bit that a writer sets
-//! to 0, and long sequences of calls on one waiting room, which have to go as a plain list does.
+//! calls of a line and of a waiting room and for trays, a tenth as many chains, fewer again for each bit that a
+//! writer sets to 0, trays that have to come to the same frame by frame and cut in two, and long sequences of calls
+//! on one waiting room, which have to go as a plain list does.
 
 mod arrivals;
 mod cases;
@@ -14,6 +15,7 @@ mod lines;
 mod queues;
 mod table;
 mod tally;
+mod trays;
 
 use arrivals::Arrivals;
 use cases::Cases;
@@ -22,14 +24,16 @@ use inputs::{Draft, Faults, FLAT_13, FLAT_14, FLAT_16, FLAT_21};
 use lent::Lent;
 use lines::Reading;
 use pelgrant_host::abi::Card;
-use pelgrant_host::document::Coding;
+use pelgrant_host::document::{Coding, Departure};
 use pelgrant_host::flat::Document;
 use pelgrant_host::queue::{Room, QUEUE, TOTALS};
 use pelgrant_host::random::Random;
+use pelgrant_host::tray::{frame_by_frame, Passed};
 use pelgrant_host::Calls;
 use queues::{Course, Step, WaitingRoom};
 use std::process::ExitCode;
 use tally::{Call, Tally};
+use trays::Trial;
 
 const INPUTS: u64 = 1_000_000;
 /// Events of a watch for each input of another call: they come in long sequences.
@@ -39,6 +43,9 @@ const LINES: u64 = 8;
 /// The same for each of a waiting room, and for each fresh record.
 const ROOMS: u64 = 10;
 const FRESH_ROOMS: u64 = 100;
+/// The same for each tray, which has up to 40 frames, and for each that is sent on in other ways as well.
+const TRAYS: u64 = 10;
+const TRAYS_OTHERWISE: u64 = 50;
 /// Calls of a sequence on one waiting room.
 const SEQUENCE: u64 = 2000;
 const SEED: u64 = 764;
@@ -62,6 +69,7 @@ struct Run {
     reading: Option<Reading>,
     line_cases: lines::Cases,
     queue_cases: queues::Cases,
+    tray_cases: trays::Cases,
     /// Lines written and read back, and lines read on behind any bits.
     read_back: u64,
     read_on: u64,
@@ -194,6 +202,78 @@ impl Run {
         self.compare(Call::Forward, flat(faults), &numbers, lent, |calls, lent| {
             calls.forward(lent.frame.part(), level, from, to, address, lent.out.part_mut(), lent.answer.part_mut())
         });
+    }
+
+    /// A tray of any frames. Both sides are held to the number that it was made for.
+    fn forward_tray(&mut self) {
+        let random = &mut self.random;
+        let faults = Faults::among(random, &[FLAT_16, 27, 27, 10, 15]);
+        let trial = Trial::draw(random, faults);
+        let (tray, answer) = (lent::octets(random, &trial.octets), lent::slots(random, trial.answers));
+        let (out, list) = (lent::buffer(random, trial.room), lent::buffer(random, trial.slots));
+        let lent = Lent { tray, out, list, answer, ..Lent::default() };
+        let hop = trial.hop;
+        let (number, after) = self.compare(Call::ForwardTray, flat(faults), &hop.numbers(), lent, |calls, lent| {
+            let Lent { tray, out, list, answer, .. } = lent;
+            hop.forward_tray(calls, tray.part(), out.part_mut(), list.part_mut(), answer.part_mut())
+        });
+        if number != trial.number() {
+            self.differs(|| println!("different: forward_tray answers {number}, not {}: {trial:?}", trial.number()));
+            return;
+        }
+        self.tray_cases.met(&trial, number, after.list.part());
+    }
+
+    /// A sound tray by the card comes to what the card makes of its frames one by one, to what it makes of the two
+    /// parts of the tray, cut behind any record, the second with the room and the list that the first leaves, and to a
+    /// tray of which the next node refuses no frame.
+    fn tray_otherwise(&mut self) {
+        let random = &mut self.random;
+        let faults = Faults::among(random, &[10, 15, 0, 0, 0]);
+        let trial = Trial::draw(random, faults);
+        let Trial { octets: tray, hop, .. } = &trial;
+        let (records, cut) = (trial.records(), random.size_below(trial.records() + 1));
+        let (out, list) = (random.octets(trial.room), random.octets(trial.slots));
+
+        let (mut whole_out, mut whole_list) = (out.clone(), list.clone());
+        let whole = hop.tray_by_card(tray, &mut whole_out, &mut whole_list);
+        let (mut single_out, mut single_list) = (out.clone(), list.clone());
+        let singly = hop.tray_frame_by_frame(tray, &mut single_out, &mut single_list);
+
+        let (mut cut_out, mut cut_list) = (out, list);
+        let (first, second) = tray.split_at(trial.end_of(cut));
+        let in_two = hop.tray_by_card(first, &mut cut_out, &mut cut_list[..cut]).and_then(|first| {
+            let left = cut_out.get_mut(first.written..)?;
+            let second = hop.tray_by_card(second, left, &mut cut_list[cut..])?;
+            Some(Passed { records: first.records + second.records, written: first.written + second.written })
+        });
+
+        let numbers = &whole_list[..records];
+        let sent = numbers.iter().filter(|number| **number == 0).count();
+        let sent_on = whole.and_then(|whole| whole_out.get(..whole.written)).unwrap_or(&[]);
+        let next = Hop { level: hop.level.min(3), address: 128, ..*hop };
+        let mut next_list = vec![u8::MAX; sent];
+        let again = next.tray_by_card(sent_on, &mut vec![0; sent_on.len()], &mut next_list);
+
+        let same_singly = (singly, &single_out, &single_list) == (whole, &whole_out, &whole_list);
+        let same_in_two = (in_two, &cut_out, &cut_list) == (whole, &whole_out, &whole_list);
+        let all_again = again.is_some_and(|again| again.records == sent) && next_list.iter().all(|number| *number == 0);
+        if whole.is_none() || !same_singly || !same_in_two || !all_again {
+            self.differs(|| {
+                println!("different: a tray in another way, {trial:?}");
+                println!("  whole {whole:?} {whole_list:?} {whole_out:?}");
+                println!("  frame by frame {singly:?} {single_list:?} {single_out:?}");
+                println!("  cut behind {cut} {in_two:?} {cut_list:?} {cut_out:?}\n  again {again:?} {next_list:?}");
+            });
+            return;
+        }
+        let cut = match cut {
+            0 => "cut before all",
+            cut if cut == records => "cut behind all",
+            _ => "cut between two",
+        };
+        ["frame by frame", cut].iter().for_each(|way| self.tray_cases.met_otherwise(way, numbers));
+        self.tray_cases.met_otherwise("what is sent on, sent on again", &next_list);
     }
 
     fn read(&mut self) {
@@ -503,6 +583,7 @@ impl Run {
             Call::Send => self.send(),
             Call::SignalWrite => self.signal_write(),
             Call::Forward => self.forward(),
+            Call::ForwardTray => self.forward_tray(),
             Call::Read => self.read(),
             Call::Fresh => self.fresh(),
             Call::Arrive => self.arrive(),
@@ -861,6 +942,25 @@ impl Hop {
         written(|out, length| Card.forward(frame, level, from, to, address, out, length))
     }
 
+    fn forward_tray(self, calls: &dyn Calls, tray: &[u8], out: &mut [u8], list: &mut [u8], answer: &mut [u64]) -> u8 {
+        let Hop { level, from, to, address } = self;
+        calls.forward_tray(tray, level, from, to, address, out, list, answer)
+    }
+
+    /// What the card answers to a tray, unless it is refused.
+    fn tray_by_card(self, tray: &[u8], out: &mut [u8], list: &mut [u8]) -> Option<Passed> {
+        let mut answer = [u64::MAX; 2];
+        let number = self.forward_tray(&Card, tray, out, list, &mut answer);
+        let [records, written] = answer.map(|value| value as usize);
+        (number == 0).then_some(Passed { records, written })
+    }
+
+    /// The same where the card is handed one frame after the other.
+    fn tray_frame_by_frame(self, tray: &[u8], out: &mut [u8], list: &mut [u8]) -> Option<Passed> {
+        let Hop { level, from, to, address } = self;
+        frame_by_frame(&Card, tray, level, &Departure { from, to, address }, out, list).ok()
+    }
+
     fn numbers(self) -> [u64; 4] {
         [self.level.into(), self.from.into(), self.to.into(), self.address.into()]
     }
@@ -916,6 +1016,7 @@ fn main() -> ExitCode {
         reading: None,
         line_cases: lines::Cases::new(),
         queue_cases: queues::Cases::new(),
+        tray_cases: trays::Cases::new(),
         read_back: 0,
         read_on: 0,
     };
@@ -923,6 +1024,7 @@ fn main() -> ExitCode {
         let times = match call {
             Call::WatchTell => EVENTS * inputs,
             Call::LineAdd | Call::LineNext => inputs / LINES,
+            Call::ForwardTray => inputs / TRAYS,
             Call::QueueFresh => inputs / FRESH_ROOMS,
             Call::QueueEnter | Call::QueueTake | Call::QueueFreed => inputs / ROOMS,
             _ => inputs,
@@ -932,6 +1034,7 @@ fn main() -> ExitCode {
     (0..inputs.div_ceil(5000)).for_each(|_| run.set_bits());
     (0..inputs.div_ceil(1000)).for_each(|_| run.ignored_bits());
     (0..inputs / 10).for_each(|_| run.chain());
+    (0..inputs / TRAYS_OTHERWISE).for_each(|_| run.tray_otherwise());
     (0..inputs / 50).for_each(|_| run.read_back());
     (0..inputs / 50).for_each(|_| run.read_on());
     for store in 0..queues::STORES.len() {
@@ -944,6 +1047,7 @@ fn main() -> ExitCode {
     let mut amiss = Vec::new();
     let others = run.arrivals.tables().into_iter().chain(run.head_bits.tables());
     let others = others.chain(run.cases.tables()).chain(run.line_cases.tables()).chain(run.queue_cases.tables());
+    let others = others.chain(run.tray_cases.tables());
     for (title, table) in std::iter::once(calls).chain(others) {
         println!("{title}");
         table.print();
@@ -958,7 +1062,8 @@ fn main() -> ExitCode {
         println!("amiss: {} cells of the tables", amiss.len());
     }
     let failed = run.different + amiss.len() as u64;
-    let compared = run.tally.total() + run.head_bits.pairs() + run.chains + run.read_back + run.read_on;
+    let others = run.head_bits.pairs() + run.tray_cases.tried_otherwise() + run.chains + run.read_back + run.read_on;
+    let compared = run.tally.total() + others;
     println!("host: {compared} compared, {failed} different");
     if failed == 0 {
         ExitCode::SUCCESS

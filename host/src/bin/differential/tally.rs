@@ -8,6 +8,7 @@ pub enum Call {
     Send,
     SignalWrite,
     Forward,
+    ForwardTray,
     Read,
     Fresh,
     Arrive,
@@ -27,13 +28,14 @@ pub enum Call {
     QueueFreed,
 }
 
-pub const CALLS: usize = 20;
+pub const CALLS: usize = 21;
 
 impl Call {
     pub const ALL: [Call; CALLS] = [
         Call::Send,
         Call::SignalWrite,
         Call::Forward,
+        Call::ForwardTray,
         Call::Read,
         Call::Fresh,
         Call::Arrive,
@@ -58,6 +60,7 @@ impl Call {
             Call::Send => "send",
             Call::SignalWrite => "signal_write",
             Call::Forward => "forward",
+            Call::ForwardTray => "forward_tray",
             Call::Read => "read",
             Call::Fresh => "fresh",
             Call::Arrive => "arrive",
@@ -84,6 +87,8 @@ impl Call {
             Call::Send => &[FLAT_16, FLAT_13, 14, 13, 6, 12, 11, 10, 15, 16],
             Call::SignalWrite => &[FLAT_16, 12, 15, 16],
             Call::Forward => &[FLAT_16, 10, 15, 1, 2, 3, 24, 4, 5, 6, 7, 8, 9, 16],
+            // Its frames' numbers stand in the list, and are counted there.
+            Call::ForwardTray => &[FLAT_16, 27],
             Call::Read => &[FLAT_16, 1, 2, 3, 24, 4, 5, 19, 6, 7, 8, 9],
             Call::Fresh => &[FLAT_14],
             Call::Arrive | Call::ArriveValue => &[FLAT_16, FLAT_14, 14, 18, 1, 2, 3, 24, 4, 5, 19, 6, 7, 8, 9, 17, 20],
