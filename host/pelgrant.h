@@ -17,8 +17,9 @@
  * written "16 (answer)".
  *
  * A refused call leaves SSEQ, the record, the watch, the line, the store, the queue, the list and the buffer
- * for what is sent as they came, but for one thing: an arrival refused with 17 or 20 still stores the frame's more bit
- * and noise in the record. A frame written leaves the rest of its buffer as it was, on a line to the bit.
+ * for what is sent as they came, but for one thing: an arrival refused with 17 or 20 still stores the
+ * frame's more bit and noise in the record. A frame written leaves the rest of its buffer as it was, on a
+ * line to the bit.
  *
  * A frame is the octets between two flags, zero bits taken out: 10 to 490 octets. None that the origin or
  * a node writes is longer than PELGRANT_FRAME_MAX; a line may carry others, up to PELGRANT_LINE_FRAME_MAX.
@@ -151,7 +152,8 @@ uint8_t pelgrant_forward(const uint8_t *frame, size_t frame_len, uint8_t level, 
 
 /* A node sends a tray of frames on: pelgrant_forward on each, in their order, with the room that is then left
  * of out after the four octets of its record; where fewer than four are left, with no room. A frame that is
- * refused writes nothing and keeps no room; those behind it are tried all the same.
+ * refused writes nothing and keeps no room; those behind it are tried all the same, and the tray is done (0)
+ * whatever becomes of its frames.
  * Lent: the tray; level, wait and outgoing address, the same for each frame; out, for the outgoing tray;
  *   list, a number for each record.
  * Back: answer[0] the records of the tray, answer[1] the octets written to out; in list the refusal of each

@@ -17,10 +17,13 @@ pub struct Forwarded {
     pub written: usize,
 }
 
-// The octets of the record that stands at the front; 0 where none does.
+// The octets of the record that stands at the front; 0 where none does. Its four octets are asked for once, not each by itself.
 fn record_size(rest: &[u8]) -> usize
     ensures { λ r. ⌜ r ≡ recordSize (now (rest .entry)) ⌝ }
 {
+    if rest.len() < 4 {
+        return 0;
+    }
     let n = two_octets(rest, 1);
     let whole = (two_octets(rest, 3) == 1) & (2 <= n) & (2 + n <= rest.len());
     octets::pick(whole, 2 + n, 0)

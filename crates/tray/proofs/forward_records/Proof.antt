@@ -6,10 +6,6 @@ use Rattle.tray.proofs.RunLaws.{Run, run-start, run-size, run-next, run
 use borrow.Author.Needs.{needs}
 use Rattle.tray.proofs.forward_records.Statement.{statement}
 use Rattle.tray.proofs.forward_records.Tie as tie
-use Rattle.tray.proofs.forward_records.Reads as reads
-use Rattle.tray.proofs.forward_records.Lts as lts
-use Rattle.octets.proofs.two_octets.Reads as two-octets-reads
-use Rattle.tray.proofs.forward_record.Reads as forward-record-reads
 
 abbrev Inv-loop : tie.InvT-loop
 Inv-loop tray count level from to address out₀ list₀ at₀ written₀ i₀ out list at written i =
@@ -42,7 +38,7 @@ add-end-2 : tie.Need-add-end-2 Inv-loop μ-loop
 add-end-2 c = search needs
 
 -- the record that is next lies within the tray
-here : (c : lts.After-two-octets (two-octets-reads.Asked, two-octets-reads.Learnt, forward-record-reads.Asked, forward-record-reads.Learnt) reads.Pre reads.Post Inv-loop μ-loop)
+here : (c : tie.After-two-octets Inv-loop μ-loop)
     → (4 ≤ 2 + c .two-octets .result)
     × (c .before .before .before .loop .at + (2 + c .two-octets .result) ≤ length (c .before .before .before .before .before .before .before .args .tray .now))
 here c =
