@@ -2,7 +2,6 @@ use lib.ListN.{length}
 use Rattle.onward.specs.Onward.{waitOf}
 use Rattle.tray.proofs.CountLaws.{tray-judged, places-enough}
 use Rattle.tray.proofs.CallLaws.{call-refused, call-done}
-use borrow.Author.Needs.{needs}
 use Rattle.tray.proofs.forward.Statement.{statement}
 use Rattle.tray.proofs.forward.Tie as tie
 
@@ -28,10 +27,10 @@ forward-records-requires c κs =
     (n .count-records .ensures .many, places-enough (n .count-records .result .end) (length (a .tray .now)) (length (a .list .now)) (n .count-records .result .count) (k .result) (k .ensures) (t .if1 .left))
 
 same-length : tie.Need-same-length
-same-length c = search needs
+same-length c = c .before .before .before .before .forward-records .kept .1 .1 .1 .1 .1 .1 .0
 
 same-length-2 : tie.Need-same-length-2
-same-length-2 c = search needs
+same-length-2 c = c .before .before .before .before .forward-records .kept .1 .1 .1 .1 .1 .1 .1 .0
 
 returns-2 : tie.Need-returns-2
 returns-2 c =

@@ -20,10 +20,10 @@ loop-holds c =
     run-start (a .level) (waitOf (a .from) (a .to)) (a .address) (a .tray .now) (a .out .now) (a .list .now)
 
 sub-two-octets : tie.Need-sub-two-octets Inv-loop μ-loop
-sub-two-octets c = search needs
+sub-two-octets c = c .before .loop .inv .within
 
 part-two-octets-start : tie.Need-part-two-octets-start Inv-loop μ-loop
-part-two-octets-start c = search needs
+part-two-octets-start c = c .before .loop .inv .within
 
 part-two-octets-end : tie.Need-part-two-octets-end Inv-loop μ-loop
 part-two-octets-end c = search needs
