@@ -11,6 +11,9 @@ pub mod ring;
 pub mod tray;
 pub mod watch;
 
+#[cfg(test)]
+mod wrong;
+
 #[cfg(feature = "card")]
 pub mod abi;
 #[cfg(feature = "card")]

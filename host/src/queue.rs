@@ -167,7 +167,8 @@ pub fn freed(queue: &[u32], level: u8) -> Result<u32, Refusal> {
 #[cfg(test)]
 mod tests {
     use super::*;
-    use crate::document::{check_sequence, Packet, Step};
+    use crate::document::{Packet, Step};
+    use crate::wrong::{changed, spoiled};
     use Refusal::*;
 
     const UNUSED: u8 = 0x99;
@@ -193,22 +194,6 @@ mod tests {
         out
     }
 
-    /// The frame with one octet, from 1, changed and its check, that of its kind, made right again.
-    fn changed(frame: &[u8], octet: usize, to: u8) -> Vec<u8> {
-        let mut frame = frame.to_vec();
-        frame[octet - 1] = to;
-        let end = frame.len() - 2;
-        let covered = if frame[2] == 239 { 8 } else { end };
-        let check = check_sequence(&frame[..covered]).to_le_bytes();
-        frame[end..].copy_from_slice(&check);
-        frame
-    }
-
-    fn spoiled(mut frame: Vec<u8>) -> Vec<u8> {
-        *frame.last_mut().unwrap() ^= 1;
-        frame
-    }
-
     /// One frame for each of the frame's own refusals but 1.
     fn refused_frames() -> [(Vec<u8>, Refusal); 9] {
         let voice = voice(24);
@@ -216,7 +201,7 @@ mod tests {
             (changed(&voice, 1, 5), Address),
             (changed(&voice, 3, 7), Control),
             (changed(&voice, 1, 6), CommandOrPoll),
-            (spoiled(voice.clone()), Check),
+            (spoiled(&voice), Check),
             (changed(&voice, 4, 67), Protocol),
             (changed(&voice, 7, 31), Coding),
             (changed(&voice, 5, 0x23), Dropping),
@@ -352,7 +337,7 @@ mod tests {
     fn a_store_of_no_octets() {
         let mut room = Tried::fresh(0);
         assert_eq!(room.enter(&signalling(1), 5), Err(NoRoom));
-        assert_eq!(room.enter(&spoiled(signalling(1)), 5), Err(Check));
+        assert_eq!(room.enter(&spoiled(&signalling(1)), 5), Err(Check));
         assert_eq!(room.enter(&[], 5), Err(FrameSize));
         assert_eq!(room.take(5), Err(NothingWaits));
         // Frames of no octets have room there; the node does not take one.
@@ -580,7 +565,7 @@ mod tests {
             assert_eq!(room.totals(), totals);
         }
         // What is refused leaves them.
-        for (frame, refusal) in [(spoiled(voice(21)), Check), (voice(24), NoRoom), (vec![], FrameSize)] {
+        for (frame, refusal) in [(spoiled(&voice(21)), Check), (voice(24), NoRoom), (vec![], FrameSize)] {
             assert_eq!((room.enter(&frame, 0), room.totals()), (Err(refusal), [48, 80, 96]));
         }
         for (octets, level, address, refusal) in [(140, 4, 128, Level), (140, 3, 127, Outgoing), (41, 3, 128, Buffer)] {

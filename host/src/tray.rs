@@ -111,8 +111,9 @@ pub fn frame_by_frame(
 #[cfg(test)]
 mod tests {
     use super::*;
-    use crate::document::{check_sequence, Packet, Step};
+    use crate::document::{Packet, Step};
     use crate::flat::Document;
+    use crate::wrong::{changed, spoiled};
 
     const UNUSED: u8 = 0x99;
     /// No wait, and the address that the signalling frame below came with: it leaves as it came.
@@ -128,23 +129,6 @@ mod tests {
         let length = document::send(&mut 0, &packet, 0, &ON, &mut out).unwrap();
         out.truncate(length);
         out
-    }
-
-    /// The frame with one octet, from 1, changed and its check, that of its kind, made right again.
-    fn changed(frame: &[u8], octet: usize, to: u8) -> Vec<u8> {
-        let mut frame = frame.to_vec();
-        frame[octet - 1] = to;
-        let end = frame.len() - 2;
-        let covered = if frame[2] == 239 { 8 } else { end };
-        let check = check_sequence(&frame[..covered]).to_le_bytes();
-        frame[end..].copy_from_slice(&check);
-        frame
-    }
-
-    fn spoiled(frame: &[u8]) -> Vec<u8> {
-        let mut frame = frame.to_vec();
-        *frame.last_mut().unwrap() ^= 1;
-        frame
     }
 
     /// A frame for each number that a node has for it, in the node's order.
