@@ -10,7 +10,10 @@ refusal-16-requires : tie.Need-refusal-16-requires
 refusal-16-requires c κs = tt
 
 returns : tie.Need-returns
-returns c = not-forwarded _ _ _ _ _ _ _ (c .before .refusal-16 .ensures) (c .if1 .taken)
+returns c =
+    let k = c .before .refusal-16 in
+    let s = c .before .before .before .before .before .before .args in
+    not-forwarded (k .result) (trayAnswer (s .level) (waitOf (s .from) (s .to)) (s .address) (s .tray .now) (s .out .now) (s .list .now)) (trayBuffer (s .level) (waitOf (s .from) (s .to)) (s .address) (s .tray .now) (s .out .now) (s .list .now)) (s .out .now) (trayList (s .level) (waitOf (s .from) (s .to)) (s .address) (s .tray .now) (s .out .now) (s .list .now)) (s .list .now) (s .answer .now) (k .ensures) (c .if1 .taken)
 
 forward-requires : tie.Need-forward-requires
 forward-requires c κs = tt
@@ -38,7 +41,8 @@ returns-2 c =
     let t = f .before .before .before in
     let s = t .before .before .before .before .before .before .args in
     let a = f .forward in
-    forwarded _ (trayAnswer (s .level) (waitOf (s .from) (s .to)) (s .address) (s .tray .now) (s .out .now) (s .list .now)) (trayBuffer (s .level) (waitOf (s .from) (s .to)) (s .address) (s .tray .now) (s .out .now) (s .list .now)) _ (trayList (s .level) (waitOf (s .from) (s .to)) (s .address) (s .tray .now) (s .out .now) (s .list .now)) _ _ (t .before .refusal-16 .ensures) (t .if1 .left) _ _ _ _ (a .ensures .0) (c .before .before .put .ensures) (a .ensures .1 .0) (a .ensures .1 .1)
+    let p = c .before .before .put in
+    forwarded (t .before .refusal-16 .result) (trayAnswer (s .level) (waitOf (s .from) (s .to)) (s .address) (s .tray .now) (s .out .now) (s .list .now)) (trayBuffer (s .level) (waitOf (s .from) (s .to)) (s .address) (s .tray .now) (s .out .now) (s .list .now)) (s .out .now) (trayList (s .level) (waitOf (s .from) (s .to)) (s .address) (s .tray .now) (s .out .now) (s .list .now)) (s .list .now) (s .answer .now) (t .before .refusal-16 .ensures) (t .if1 .left) (a .result) (p .last .1 .0) (a .last .1 .1 .1 .1 .1 .0) (a .last .1 .1 .1 .1 .1 .1 .0) (a .ensures .0) (p .ensures) (a .ensures .1 .0) (a .ensures .1 .1)
 
 pub pelgrant-forward-tray-spec : {M : Type 1} → statement M
 pelgrant-forward-tray-spec =
