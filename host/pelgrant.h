@@ -1,5 +1,5 @@
-/* The calls of the card, for a host in C. Document 01 is the law of what they do, as requests A2 and A5
- * of document 02 amend it; for the two calls of the signalling watch it is request A1, for the two of a
+/* The calls of the card, for a host in C. Document 01 is the law of what they do, as requests A2, A5 and
+ * A9 of document 02 amend it; for the two calls of the signalling watch it is request A1, for the two of a
  * line of bits request A4, for the four of a waiting room requests A6 and A7, for a tray request A8.
  *
  * Every call takes any octets and any numbers, comes to an end and gives a refusal number of
@@ -31,6 +31,12 @@
  * node writes. A frame that comes with either set is refused with 24, after 3 and before its check is looked
  * at; only the calls of a line, which look into no frame, carry it as any other. Reserved bits, and of a
  * signalling frame the more bit and the sequence, are ignored, and a node sends them on as they came.
+ *
+ * What is heard of a voice frame is 128 words of the width that is left: the sample bits S of its coding
+ * less the blocks dropped on its way. Each is the sample that the origin was given divided by 2 to the power
+ * of the blocks dropped, whole division, as a decoder of that width takes it; multiplied by that power it is
+ * the sample with its dropped bits zero. The width may change from frame to frame, so the host keeps it with
+ * the words.
  *
  * A line is lent octets and a count of bits, lowest bit of each octet first: bit i of the line is bit
  * i % 8 of octet i / 8. A flag is a zero, six ones and a zero.
@@ -170,8 +176,9 @@ uint8_t pelgrant_forward_tray(const uint8_t *tray, size_t tray_len, uint8_t leve
 
 /* Reads a voice frame without a record or a clock.
  * Lent: the frame.
- * Back: answer[0] the sample bits S, answer[1] the blocks dropped; the first 128 of samples.
- * Refusals: 16 (answer below 2 or samples below 128), 1, 2, 3, 24, 4, 5, 19, 6, 7, 8, 9.
+ * Back: answer[0] the sample bits S, answer[1] the blocks dropped, answer[2] the width that is left; the
+ *   first 128 of samples, words of that width.
+ * Refusals: 16 (answer below 3 or samples below 128), 1, 2, 3, 24, 4, 5, 19, 6, 7, 8, 9.
  * Untouched: frame. */
 uint8_t pelgrant_read(const uint8_t *frame, size_t frame_len, uint64_t *answer, size_t answer_len,
     uint8_t *samples, size_t samples_len);
@@ -187,8 +194,9 @@ uint8_t pelgrant_fresh(uint8_t buildout, uint64_t *record, size_t record_len);
 /* A voice frame arrives at the endpoint: when it is to be played, and what.
  * Lent: the record, exactly 6 numbers; the frame; clock, the play clock in ms, up to 2^62.
  * Back: answer[0] the time it is due, answer[1] 1 if the decoder is to be reset, else 0, answer[2] the
- *   sample bits S, answer[3] the blocks dropped; the first 128 of samples; the record moved on.
- * Refusals: 16 (answer below 4 or samples below 128), 14 where record_len is not 6, 14, 18,
+ *   sample bits S, answer[3] the blocks dropped, answer[4] the width that is left; the first 128 of samples,
+ *   words of that width; the record moved on.
+ * Refusals: 16 (answer below 5 or samples below 128), 14 where record_len is not 6, 14, 18,
  *   1, 2, 3, 24, 4, 5, 19, 6, 7, 8, 9, 17, 20.
  * Untouched: frame; where refused, the record, save that 17 and 20 (late, due too far ahead) store the
  *   frame's more bit in M_LAST and its noise in the last noise: a late stop packet counts as a stop. */
@@ -216,7 +224,8 @@ uint8_t pelgrant_signal_read(uint8_t buildout, const uint8_t *frame, size_t fram
  * Lent: last, the samples last played, and noise, the host's, both at least 128; m_last of the record,
  *   the more bit of the last frame that was scheduled or refused with 17 or 20.
  * Back: the first 128 of out, copied from last if m_last is 1, else from noise, and answer[0] 128; or
- *   answer[0] 0 where last or noise is shorter than 128.
+ *   answer[0] 0 where last or noise is shorter than 128. The words are handed on as they are: their width is
+ *   the one that the host has kept with last, or with noise.
  * Refusals: 16 (answer below 1 or out below 128).
  * Untouched: last and noise; out where answer[0] is 0. */
 uint8_t pelgrant_fill(const uint8_t *last, size_t last_len, const uint8_t *noise, size_t noise_len, uint8_t m_last,

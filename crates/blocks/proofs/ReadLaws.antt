@@ -16,7 +16,7 @@ use Rattle.octets.specs.Octets.{tab}
 use Rattle.octets.proofs.TabLaws.{getD-tab, length-tab}
 use Rattle.blocks.specs.Blocks.{bitOf, weight, sample, samples}
 use Rattle.blocks.proofs.BitLaws.{bit-lt, bit-up, bit-down, bit-below, bits-all}
-use Rattle.blocks.proofs.BlocksLaws.{sample-room}
+use Rattle.blocks.proofs.BlocksLaws.{bitIn, next-block, zero-filled, sample-room}
 use Rattle.blocks.proofs.PlaneLaws.{bitAt, by-cases, Turned, turned-at}
 
 -- a loop that adds the octets of a block to a row of zeros: before the first, the octet that it reads next, and after a turn
@@ -87,21 +87,6 @@ module _ (xs part : List ℕ) (w : ℕ) (hx : 16 * w + 16 ≤ length xs) (hp : 1
 
 -- ---- the bits of a sample that is read
 
--- a bit added below all that is there
-add-bit : (z c w : ℕ) → z * 2 ^ suc w + c * 2 ^ w ≡ (z * 2 + c) * 2 ^ w
-add-bit z c w = ap (λ (n : ℕ). z * n + c * 2 ^ w) (pow-suc 2 w ∙ mul-comm (2 ^ w) 2) ∙ ap (λ (n : ℕ). n + c * 2 ^ w) (sym (mul-assoc z 2 (2 ^ w))) ∙ sym (add-mul (z * 2) c (2 ^ w))
-
--- k blocks give no bit below S - k
-pub sample-high : (v : List ℕ) (S k i : ℕ) → k ≤ S → (z : ℕ) × (sample v S k i ≡ z * 2 ^ (S - k))
-unfolding sample
-sample-high v S zero i h = (0, sym (zero-mul (2 ^ (S - 0))))
-sample-high v S (suc k) i h =
-    let s = sample-high v S k i (omega arith) in
-    let c : ℕ = bitOf (getD v (16 * k + i / 8) 0) (i % 8) in
-    let e : S - k ≡ suc (S - suc k) = omega arith in
-    let f : weight S k ≡ S - suc k = omega arith in
-    (s .0 * 2 + c, rw f (ap (λ (n : ℕ). n + c * 2 ^ (S - suc k)) (s .1 ∙ ap (λ (n : ℕ). s .0 * 2 ^ n) e) ∙ add-bit (s .0) c (S - suc k)))
-
 -- the next block's bit, and the others as they were
 added-own : (z c w : ℕ) → c < 2 → bitOf ((z * 2 + c) * 2 ^ w) w ≡ c
 added-own z c w h = ap (bitOf ((z * 2 + c) * 2 ^ w)) (sym (add-zero w)) ∙ bit-up (z * 2 + c) w 0 ∙ rw div-one (omega arith)
@@ -118,26 +103,22 @@ added-other z c w p h n =
     (eq-zero-or-pos (w - p))
 
 module _ (v : List ℕ) (S k i : ℕ) (h : k < S) where
-  abbrev bit : ℕ
-  bit = bitOf (getD v (16 * k + i / 8) 0) (i % 8)
-
   -- the sample so far ends in S - k zeros, and the bit goes to the highest of them
   abbrev z : ℕ
-  z = sample-high v S k i (le-of-lt h) .0
+  z = sample v k k i
 
   so-far : sample v S k i ≡ z * 2 ^ suc (weight S k)
-  so-far = let e : S - k ≡ suc (weight S k) = omega arith in sample-high v S k i (le-of-lt h) .1 ∙ ap (λ (n : ℕ). z * 2 ^ n) e
+  so-far = let e : S - k ≡ suc (weight S k) = omega arith in zero-filled v i S k (le-of-lt h) ∙ ap (λ (n : ℕ). z * 2 ^ n) e
 
-  then : sample v S (suc k) i ≡ (z * 2 + bit) * 2 ^ weight S k
-  unfolding sample
-  then = ap (λ (n : ℕ). n + bit * 2 ^ weight S k) so-far ∙ add-bit z bit (weight S k)
+  then : sample v S (suc k) i ≡ (z * 2 + bitIn v i k) * 2 ^ weight S k
+  then = next-block v i S k z h (zero-filled v i S k (le-of-lt h))
 
-  sample-own : bitOf (sample v S (suc k) i) (weight S k) ≡ bit
-  sample-own = ap (λ (n : ℕ). bitOf n (weight S k)) then ∙ added-own z bit (weight S k) (bit-lt (getD v (16 * k + i / 8) 0) (i % 8))
+  sample-own : bitOf (sample v S (suc k) i) (weight S k) ≡ bitIn v i k
+  sample-own = ap (λ (n : ℕ). bitOf n (weight S k)) then ∙ added-own z (bitIn v i k) (weight S k) (bit-lt (getD v (16 * k + i / 8) 0) (i % 8))
 
   sample-other : (p : ℕ) → p ≢ weight S k → bitOf (sample v S (suc k) i) p ≡ bitOf (sample v S k i) p
   sample-other p n =
-      ap (λ (n : ℕ). bitOf n p) then ∙ added-other z bit (weight S k) p (bit-lt (getD v (16 * k + i / 8) 0) (i % 8)) n ∙ sym (ap (λ (n : ℕ). bitOf n p) so-far)
+      ap (λ (n : ℕ). bitOf n p) then ∙ added-other z (bitIn v i k) (weight S k) p (bit-lt (getD v (16 * k + i / 8) 0) (i % 8)) n ∙ sym (ap (λ (n : ℕ). bitOf n p) so-far)
 
 -- ---- the planes are always the samples so far, turned over
 

@@ -91,7 +91,7 @@ module _ (e : Endpoint) (f : List ℕ) (clock : ℕ) (after answer samples : Lis
       )
 
   pub by-outcome : (o : Outcome) → o ≡ outcomeOf (arrivalOf e f clock) → (numbers z x y : List ℕ)
-      → numbers ≡ recordNumbers (o .after) → z ≡ put numbers after → x ≡ put (o .due ∷ o .reset ∷ o .s ∷ o .dropped ∷ []) answer → y ≡ heardOf (o .refusal) f .samples ++ drop 128 samples
+      → numbers ≡ recordNumbers (o .after) → z ≡ put numbers after → x ≡ put (o .due ∷ o .reset ∷ o .s ∷ o .dropped ∷ o .width ∷ []) answer → y ≡ heardOf (o .refusal) f .samples ++ drop 128 samples
       → Arrives (o .refusal) z x y
   unfolding arrivalOf arrivalBy
   by-outcome o w numbers z x y m r p q = (
@@ -99,7 +99,7 @@ module _ (e : Endpoint) (f : List ℕ) (clock : ℕ) (after answer samples : Lis
     (
       r ∙ ap (λ (l : List ℕ). put l after) (m ∙ ap (λ (v : Outcome). recordNumbers (v .after)) w),
       (
-        p ∙ ap (λ (v : Outcome). put (v .due ∷ v .reset ∷ v .s ∷ v .dropped ∷ []) answer) w,
+        p ∙ ap (λ (v : Outcome). put (v .due ∷ v .reset ∷ v .s ∷ v .dropped ∷ v .width ∷ []) answer) w,
         put-heard (o .refusal) f samples y q ∙ ap (λ (v : Outcome). put (heardOf (v .refusal) f .samples) samples) w,
       ),
     ),

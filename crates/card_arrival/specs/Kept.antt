@@ -11,7 +11,7 @@ use Rattle.endpoint.specs.declared.Arrival.{Arrival}
 
 -- the answer as numbers, in their order
 abbrev pub arrivalNumbers : Arrival → List ℕ
-arrivalNumbers a = a .due ∷ a .reset ∷ a .s ∷ a .dropped ∷ []
+arrivalNumbers a = a .due ∷ a .reset ∷ a .s ∷ a .dropped ∷ a .width ∷ []
 
 -- the endpoint's record is six numbers: B, RSEQ, last clock, end, M_LAST, last noise
 abbrev pub recordNumbers : Endpoint → List ℕ
@@ -33,7 +33,7 @@ recordRefusal n = refuse (not (eqb n 6)) 14
 
 -- a number, and zeros elsewhere
 abbrev pub refusedArrival : ℕ → Arrival
-refusedArrival n = record { refusal = n; due = 0; reset = 0; s = 0; dropped = 0; samples = replicate 128 0 }
+refusedArrival n = record { refusal = n; due = 0; reset = 0; s = 0; dropped = 0; width = 0; samples = replicate 128 0 }
 
 -- the arrival on a record of numbers
 unfoldable pub keptArrival : List ℕ → List ℕ → ℕ → Arrival

@@ -50,12 +50,12 @@ pub extern "C" fn pelgrant_fresh(buildout: u8, kept: &mut [u64]) -> u8
 
 // What a record that is none gets: 14, and zeros elsewhere. Both exported arrivals refuse shorter slices first.
 fn no_record(frame: &[u8], answer: &mut [u64], samples: &mut [u8]) -> u8
-    requires { ⌜ (4 ≤ length (now answer)) × (128 ≤ length (now samples)) ⌝ }
+    requires { ⌜ (5 ≤ length (now answer)) × (128 ≤ length (now samples)) ⌝ }
     ensures number { λ r. ⌜ r ≡ 14 ⌝ }
     ensures answer { λ _. ⌜ now (answer .exit) ≡ putBefore (arrivalNumbers (refusedArrival 14)) (now (answer .entry)) ⌝ }
     ensures samples { λ _. ⌜ now (samples .exit) ≡ putBefore (refusedArrival 14 .samples) (now (samples .entry)) ⌝ }
 {
-    let none = [0u64; 4];
+    let none = [0u64; 5];
     put(&none, answer);
     endpoint::hear_into(14, frame, samples);
     14
@@ -77,7 +77,7 @@ fn arrival(
     answer: &mut [u64],
     samples: &mut [u8],
 ) -> u8
-    requires { ⌜ (6 ≤ length (now after)) × (4 ≤ length (now answer)) × (128 ≤ length (now samples)) ⌝ }
+    requires { ⌜ (6 ≤ length (now after)) × (5 ≤ length (now answer)) × (128 ≤ length (now samples)) ⌝ }
     ensures number { λ r. ⌜ r ≡ arrivalOf (recordWith buildout rseq lastclock end mlast lastnoise) (now (frame .entry)) clock .answer .refusal ⌝ }
     ensures after { λ _. ⌜ now (after .exit) ≡ putBefore (recordNumbers (arrivalOf (recordWith buildout rseq lastclock end mlast lastnoise) (now (frame .entry)) clock .after)) (now (after .entry)) ⌝ }
     ensures answer { λ _. ⌜ now (answer .exit) ≡ putBefore (arrivalNumbers (arrivalOf (recordWith buildout rseq lastclock end mlast lastnoise) (now (frame .entry)) clock .answer)) (now (answer .entry)) ⌝ }
@@ -98,7 +98,13 @@ fn arrival(
         lastnoise: lastnoise as u8,
     };
     let o = endpoint::judge(before, &*frame, clock);
-    let numbers = [o.due, o.reset as u64, o.s as u64, o.dropped as u64];
+    let numbers = [
+        o.due,
+        o.reset as u64,
+        o.s as u64,
+        o.dropped as u64,
+        o.width as u64,
+    ];
     put(&numbers, answer);
     let moved = o.after;
     let next = record_numbers(moved);
@@ -116,12 +122,12 @@ pub extern "C" fn pelgrant_arrive(
     answer: &mut [u64],
     samples: &mut [u8],
 ) -> u8
-    ensures number { λ r. ⌜ r ≡ shortTwo 4 (now (answer .entry)) 128 (now (samples .entry)) orElse keptArrival (now (kept .entry)) (now (frame .entry)) clock .refusal ⌝ }
-    ensures answer { λ _. ⌜ now (answer .exit) ≡ written (shortTwo 4 (now (answer .entry)) 128 (now (samples .entry))) (arrivalNumbers (keptArrival (now (kept .entry)) (now (frame .entry)) clock)) (now (answer .entry)) ⌝ }
-    ensures samples { λ _. ⌜ now (samples .exit) ≡ written (shortTwo 4 (now (answer .entry)) 128 (now (samples .entry))) (keptArrival (now (kept .entry)) (now (frame .entry)) clock .samples) (now (samples .entry)) ⌝ }
-    ensures kept { λ _. ⌜ now (kept .exit) ≡ written (shortTwo 4 (now (answer .entry)) 128 (now (samples .entry)) orElse recordRefusal (length (now (kept .entry)))) (keptAfter (now (kept .entry)) (now (frame .entry)) clock) (now (kept .entry)) ⌝ }
+    ensures number { λ r. ⌜ r ≡ shortTwo 5 (now (answer .entry)) 128 (now (samples .entry)) orElse keptArrival (now (kept .entry)) (now (frame .entry)) clock .refusal ⌝ }
+    ensures answer { λ _. ⌜ now (answer .exit) ≡ written (shortTwo 5 (now (answer .entry)) 128 (now (samples .entry))) (arrivalNumbers (keptArrival (now (kept .entry)) (now (frame .entry)) clock)) (now (answer .entry)) ⌝ }
+    ensures samples { λ _. ⌜ now (samples .exit) ≡ written (shortTwo 5 (now (answer .entry)) 128 (now (samples .entry))) (keptArrival (now (kept .entry)) (now (frame .entry)) clock .samples) (now (samples .entry)) ⌝ }
+    ensures kept { λ _. ⌜ now (kept .exit) ≡ written (shortTwo 5 (now (answer .entry)) 128 (now (samples .entry)) orElse recordRefusal (length (now (kept .entry)))) (keptAfter (now (kept .entry)) (now (frame .entry)) clock) (now (kept .entry)) ⌝ }
 {
-    let flat = short_two(answer.len(), 4, samples.len(), 128);
+    let flat = short_two(answer.len(), 5, samples.len(), 128);
     if flat != 0 {
         return flat;
     }
@@ -154,12 +160,12 @@ pub extern "C" fn pelgrant_arrive_value(
     answer: &mut [u64],
     samples: &mut [u8],
 ) -> u8
-    ensures number { λ r. ⌜ r ≡ (short 6 (now (after .entry)) orElse shortTwo 4 (now (answer .entry)) 128 (now (samples .entry))) orElse keptArrival (now (kept .entry)) (now (frame .entry)) clock .refusal ⌝ }
-    ensures answer { λ _. ⌜ now (answer .exit) ≡ written (short 6 (now (after .entry)) orElse shortTwo 4 (now (answer .entry)) 128 (now (samples .entry))) (arrivalNumbers (keptArrival (now (kept .entry)) (now (frame .entry)) clock)) (now (answer .entry)) ⌝ }
-    ensures samples { λ _. ⌜ now (samples .exit) ≡ written (short 6 (now (after .entry)) orElse shortTwo 4 (now (answer .entry)) 128 (now (samples .entry))) (keptArrival (now (kept .entry)) (now (frame .entry)) clock .samples) (now (samples .entry)) ⌝ }
-    ensures after { λ _. ⌜ now (after .exit) ≡ written ((short 6 (now (after .entry)) orElse shortTwo 4 (now (answer .entry)) 128 (now (samples .entry))) orElse recordRefusal (length (now (kept .entry)))) (keptAfter (now (kept .entry)) (now (frame .entry)) clock) (now (after .entry)) ⌝ }
+    ensures number { λ r. ⌜ r ≡ (short 6 (now (after .entry)) orElse shortTwo 5 (now (answer .entry)) 128 (now (samples .entry))) orElse keptArrival (now (kept .entry)) (now (frame .entry)) clock .refusal ⌝ }
+    ensures answer { λ _. ⌜ now (answer .exit) ≡ written (short 6 (now (after .entry)) orElse shortTwo 5 (now (answer .entry)) 128 (now (samples .entry))) (arrivalNumbers (keptArrival (now (kept .entry)) (now (frame .entry)) clock)) (now (answer .entry)) ⌝ }
+    ensures samples { λ _. ⌜ now (samples .exit) ≡ written (short 6 (now (after .entry)) orElse shortTwo 5 (now (answer .entry)) 128 (now (samples .entry))) (keptArrival (now (kept .entry)) (now (frame .entry)) clock .samples) (now (samples .entry)) ⌝ }
+    ensures after { λ _. ⌜ now (after .exit) ≡ written ((short 6 (now (after .entry)) orElse shortTwo 5 (now (answer .entry)) 128 (now (samples .entry))) orElse recordRefusal (length (now (kept .entry)))) (keptAfter (now (kept .entry)) (now (frame .entry)) clock) (now (after .entry)) ⌝ }
 {
-    let others = short_two(answer.len(), 4, samples.len(), 128);
+    let others = short_two(answer.len(), 5, samples.len(), 128);
     let flat = or_else(refusal_16(after.len(), 6), others);
     if flat != 0 {
         return flat;

@@ -1,6 +1,6 @@
 -- What is known of slices that the endpoint's calls take, and what a call that fills two slices answers and leaves, refused or done.
 use Prim.Native.Nat.{ℕ, _≤_}
-use mathlib.Core.Path.{_≡_, ap, ap₂, _∙_}
+use mathlib.Core.Path.{_≡_, ap, _∙_}
 use mathlib.Core.Bool.{Bool, true, false, cond, _||_}
 use mathlib.Core.List.{List, [], _∷_}
 use native.Mathlib.Omega.{arith}
@@ -9,6 +9,8 @@ use lib.ListN.{length, take, length-take}
 use Rattle.refusals.specs.Refusals.{_orElse_}
 use Rattle.frame.specs.Orders.{voiceRefusal}
 use Rattle.endpoint.specs.Fill.{fillOf}
+use Rattle.endpoint.specs.declared.Told.{Told}
+use Rattle.endpoint.specs.Outcome.{toldOf}
 use Rattle.endpoint.specs.Read.{heardOf, readAnswer}
 use Rattle.endpoint.proofs.ReadLaws.{heard-number}
 use Rattle.card.specs.Card.{put, written}
@@ -28,9 +30,9 @@ module _ (n : ℕ) (f : List ℕ) (e : n ≡ voiceRefusal f) where
   unfolding readAnswer
   read-number = e ∙ heard-number (voiceRefusal f) f
 
-  pub read-numbers : (s dropped : ℕ) → (s ≡ heardOf n f .s) × (dropped ≡ heardOf n f .dropped) → s ∷ dropped ∷ [] ≡ heardNumbers (readAnswer f)
+  pub read-numbers : (t : Told) → t ≡ toldOf (heardOf n f) → t .s ∷ t .dropped ∷ t .width ∷ [] ≡ heardNumbers (readAnswer f)
   unfolding readAnswer
-  read-numbers s dropped p = ap₂ (λ (x y : ℕ). x ∷ y ∷ []) (p .0) (p .1) ∙ ap (λ (k : ℕ). heardNumbers (heardOf k f)) e
+  read-numbers t p = ap (λ (x : Told). x .s ∷ x .dropped ∷ x .width ∷ []) p ∙ ap (λ (k : ℕ). heardNumbers (heardOf k f)) e
 
   pub read-samples : heardOf n f .samples ≡ readAnswer f .samples
   unfolding readAnswer

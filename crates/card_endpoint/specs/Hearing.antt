@@ -11,7 +11,7 @@ abbrev pub noiseNumbers : Paper → List ℕ
 noiseNumbers a = flag (a .idle) ∷ []
 
 abbrev pub heardNumbers : Heard → List ℕ
-heardNumbers a = a .s ∷ a .dropped ∷ []
+heardNumbers a = a .s ∷ a .dropped ∷ a .width ∷ []
 
 abbrev pub signalNumbers : SignalHeard → List ℕ
 signalNumbers a = a .bits ∷ a .na ∷ a .hold ∷ []

@@ -18,17 +18,17 @@ use refusals::refusal_16;
 // The voice reader.
 #[no_mangle]
 pub extern "C" fn pelgrant_read(frame: &[u8], answer: &mut [u64], samples: &mut [u8]) -> u8
-    ensures number { λ r. ⌜ r ≡ shortTwo 2 (now (answer .entry)) 128 (now (samples .entry)) orElse readAnswer (now (frame .entry)) .refusal ⌝ }
-    ensures answer { λ _. ⌜ now (answer .exit) ≡ written (shortTwo 2 (now (answer .entry)) 128 (now (samples .entry))) (heardNumbers (readAnswer (now (frame .entry)))) (now (answer .entry)) ⌝ }
-    ensures samples { λ _. ⌜ now (samples .exit) ≡ written (shortTwo 2 (now (answer .entry)) 128 (now (samples .entry))) (readAnswer (now (frame .entry)) .samples) (now (samples .entry)) ⌝ }
+    ensures number { λ r. ⌜ r ≡ shortTwo 3 (now (answer .entry)) 128 (now (samples .entry)) orElse readAnswer (now (frame .entry)) .refusal ⌝ }
+    ensures answer { λ _. ⌜ now (answer .exit) ≡ written (shortTwo 3 (now (answer .entry)) 128 (now (samples .entry))) (heardNumbers (readAnswer (now (frame .entry)))) (now (answer .entry)) ⌝ }
+    ensures samples { λ _. ⌜ now (samples .exit) ≡ written (shortTwo 3 (now (answer .entry)) 128 (now (samples .entry))) (readAnswer (now (frame .entry)) .samples) (now (samples .entry)) ⌝ }
 {
-    let flat = short_two(answer.len(), 2, samples.len(), 128);
+    let flat = short_two(answer.len(), 3, samples.len(), 128);
     if flat != 0 {
         return flat;
     }
     let n = frame::voice_refusal(&*frame);
     let t = endpoint::tell(n, frame);
-    let numbers = [t.s as u64, t.dropped as u64];
+    let numbers = [t.s as u64, t.dropped as u64, t.width as u64];
     put(&numbers, answer);
     endpoint::hear_into(n, &*frame, samples);
     n

@@ -11,8 +11,8 @@ use Rattle.refusals.specs.Refusals.{addressBad}
 use Rattle.fcs.specs.Fcs.{fcsOctets}
 use Rattle.coding.specs.Coding.{sampleBits, droppableBits, reserved}
 use Rattle.coding.proofs.CodingLaws.{d-le-s}
-use Rattle.blocks.specs.Blocks.{field, samples, cleared, samplesFit}
-use Rattle.blocks.proofs.BlocksLaws.{read-field, read-dropped, cleared-none}
+use Rattle.blocks.specs.Blocks.{field, samples, divided, samplesFit}
+use Rattle.blocks.proofs.BlocksLaws.{read-field, read-dropped, divided-none}
 use Rattle.frame.specs.Fields.{isVoice, fieldM, fieldC, stamp, moreBit, coding, sequence, noise}
 use Rattle.frame.specs.Orders.{voiceRefusal}
 use Rattle.frame.proofs.FrameLaws.{Passes, passed, taken-voice}
@@ -26,7 +26,7 @@ use Rattle.origin.specs.Send.{madeHead, made, sendWritten, sendRefusal, sendAns
 use Rattle.origin.proofs.SendLaws.{SendTaken, send-taken, written-field, sent-length, sent-M, sent-C, sent-voice, sent-stamp, sent-passes, sent-coding, sent-more, sent-sequence, sent-noise}
 use Rattle.endpoint.specs.declared.Heard.{Heard}
 use Rattle.endpoint.specs.Read.{samplesOf, heardOf, readAnswer}
-use Rattle.chain.specs.Chain.{Origin, refusedAt, sent, Node, refusedBy, handed, chain, AllTake, AllReady, levels, waits, lastAddress, single, lost}
+use Rattle.chain.specs.Chain.{Origin, refusedAt, sent, Node, refusedBy, handed, chain, AllTake, AllReady, levels, waits, lastAddress, single, lost, whatIsHeard}
 
 -- ---- what the origin sends, and what is made of it on the way
 
@@ -93,17 +93,17 @@ module _ (o : Origin) (known : reserved (o .coding) ≡ false) where
       k .1 ∙ ap₂ (λ (x y : ℕ). at o x y (lastAddress (n .address) ns)) (add-assoc l (n .level) (levels ns)) (add-assoc w v (waits ns)) in
       ((t .0, rw (t .1) (k .0)), ap (chain ns) (t .1) ∙ sum, k .2)
 
--- the voice field of what arrives, read at the origin's width
+-- the voice field of what arrives, read at the width that is left
 at-heard : (o : Origin) (l w a k : ℕ) → k ≡ min (droppableBits (o .coding)) l → samplesFit (o .samples) (sampleBits (o .coding)) ≡ true
-    → samples (drop 8 (at o l w a)) (sampleBits (o .coding)) (sampleBits (o .coding) - k) ≡ map (cleared k) (o .samples)
+    → samples (drop 8 (at o l w a)) (sampleBits (o .coding) - k) (sampleBits (o .coding) - k) ≡ map (divided k) (o .samples)
 unfolding sendWritten onward onwardHead framed
 at-heard o l w a k e fit =
     let S : ℕ = sampleBits (o .coding) in
     let m : List ℕ = made a (o .coding) (moreSent (o .step)) (sequenceSent (o .step) (o .sseq)) (o .noise) (o .samples) in
     let f : onwardField l m ≡ field (o .samples) S (S - k) =
     written-field a (o .coding) (moreSent (o .step)) (sequenceSent (o .step) (o .sseq)) (o .noise) (o .samples) l ∙ ap (λ (d : ℕ). field (o .samples) S (S - d)) (sym e) in
-    ap (λ (v : List ℕ). samples (v ++ fcsOctets (onwardHead l w a m)) S (S - k)) f
-    ∙ read-field (o .samples) (fcsOctets (onwardHead l w a m)) S (S - k) (S - k) (le-refl (S - k))
+    ap (λ (v : List ℕ). samples (v ++ fcsOctets (onwardHead l w a m)) (S - k) (S - k)) f
+    ∙ read-field (o .samples) (fcsOctets (onwardHead l w a m)) S (S - k) (S - k) (S - k) (le-refl (S - k))
     ∙ read-dropped (o .samples) S k fit (omega (arith, d-le-s (o .coding)))
 
 -- ---- demand 3
@@ -172,9 +172,8 @@ module _ (o : Origin) (z : refusedAt o ≡ 0) where
           at-length o (taken .known) l w a,
         )
 
-    -- what is heard: the originals with the lowest k bits zero
-    pub heard : readAnswer (chain ns (sent o))
-        ≡ record { refusal = 0; s = sampleBits (o .coding); dropped = lost o ns; samples = map (cleared (lost o ns)) (o .samples) }
+    -- what is heard: the originals divided by 2 ^ k, k the bits lost, and the width that is left
+    pub heard : readAnswer (chain ns (sent o)) ≡ whatIsHeard o ns
     unfolding readAnswer heardOf samplesOf
     heard =
         let f : List ℕ = chain ns (sent o) in
@@ -186,8 +185,8 @@ module _ (o : Origin) (z : refusedAt o ≡ 0) where
         let none : voiceRefusal f ≡ 0 = taken-voice f p v in
         let es : sampleBits (coding f) ≡ S = ap sampleBits (arrives .3) in
         let ek : fieldM f - fieldC f ≡ k = arrives .5 in
-        let voice : samples (drop 8 f) S (S - k) ≡ map (cleared k) (o .samples) =
-        ap (λ (g : List ℕ). samples (drop 8 g) S (S - k)) (along .1)
+        let voice : samples (drop 8 f) (S - k) (S - k) ≡ map (divided k) (o .samples) =
+        ap (λ (g : List ℕ). samples (drop 8 g) (S - k) (S - k)) (along .1)
         ∙ at-heard o (o .level + levels ns) (waitOf (o .from) (o .to) + waits ns) (lastAddress (o .address) ns) k refl (taken .fit) in
         rw (none, es, ek, voice)
 
@@ -201,4 +200,4 @@ pub read-back : (o : Origin) (ns : List Node) → refusedAt o ≡ 0 → AllReady
     → readAnswer (chain ns (sent o)) .samples ≡ o .samples
 read-back o ns z ready none all =
     let k : lost o ns ≡ 0 = omega arith in
-    ap (λ (h : Heard). h .samples) (heard o z ns ready) ∙ ap (λ (n : ℕ). map (cleared n) (o .samples)) k ∙ cleared-none (o .samples)
+    ap (λ (h : Heard). h .samples) (heard o z ns ready) ∙ ap (λ (n : ℕ). map (divided n) (o .samples)) k ∙ divided-none (o .samples)

@@ -1,15 +1,17 @@
--- Demand 3: any chain of nodes is one node. Stated over what the calls answer and leave in their buffers.
-use Prim.Native.Nat.{ℕ, _+_, _≤_, min}
+-- Demand 3, its last part as request A9 has it: any chain of nodes is one node. Stated over what the calls answer and leave in their buffers.
+use Prim.Native.Nat.{ℕ, _+_, _-_, _≤_, min}
 use mathlib.Core.Path.{_≡_}
 use mathlib.Core.Bool.{false}
-use mathlib.Core.List.{List, [], _∷_}
+use mathlib.Core.List.{List, [], _∷_, map}
 use lib.ListN.{length, take}
 use Rattle.refusals.specs.Refusals.{addressBad}
-use Rattle.coding.specs.Coding.{droppableBits}
+use Rattle.coding.specs.Coding.{sampleBits, droppableBits}
+use Rattle.blocks.specs.Blocks.{divided}
 use Rattle.onward.specs.Onward.{waitOf, onward}
 use Rattle.node.specs.Node.{forwardAnswer, forwardBuffer}
 use Rattle.origin.specs.Send.{sendAnswer, sendBuffer}
 use Rattle.origin.specs.declared.Step.{Step}
+use Rattle.endpoint.specs.declared.Heard.{Heard}
 
 -- one call of `origin::send`: what it is given
 pub record Origin : Type 0 where
@@ -99,3 +101,13 @@ single o ns out = record {
 -- how many bits are lost: the lesser of the coding's droppable bits and the sum of all levels, the origin's included
 abbrev pub lost : Origin → List Node → ℕ
 lost o ns = min (droppableBits (o .coding)) (o .level + levels ns)
+
+-- what the reader answers at the end: the originals divided by 2 to the power of the bits lost, whole division, and the width that is left
+abbrev pub whatIsHeard : Origin → List Node → Heard
+whatIsHeard o ns = record {
+  refusal = 0;
+  s = sampleBits (o .coding);
+  dropped = lost o ns;
+  width = sampleBits (o .coding) - lost o ns;
+  samples = map (divided (lost o ns)) (o .samples);
+}

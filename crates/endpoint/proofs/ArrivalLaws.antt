@@ -13,12 +13,13 @@ use Rattle.refusals.proofs.RefusalLaws.{orElse-take, orElse-assoc}
 use Rattle.frame.specs.Orders.{voiceRefusal}
 use Rattle.playout.specs.declared.Endpoint.{Endpoint}
 use Rattle.playout.specs.declared.Decision.{Decision}
+use Rattle.endpoint.specs.declared.Told.{Told}
 use Rattle.endpoint.specs.declared.Outcome.{Outcome}
 use Rattle.endpoint.specs.declared.Arrived.{Arrived}
 use Rattle.playout.specs.Play.{clockLimit, recordBad, refusal14, refusal18, dueAt, playRefusal, afterScheduled, stillStores, afterRefused, decision}
 use Rattle.endpoint.specs.Read.{heardOf, readAnswer}
 use Rattle.endpoint.specs.Arrival.{resetOf, frameDecision, arrivalBy, arrivalOf}
-use Rattle.endpoint.specs.Outcome.{outcomeOf}
+use Rattle.endpoint.specs.Outcome.{toldOf, outcomeOf}
 use Rattle.endpoint.specs.Calls.{isReceived}
 use Rattle.playout.proofs.PlayLaws.{by-decision, first-stands, decided-with, decided-number, decided-scheduled, decided-ranged, decided-near, decided-ahead, decided-apart, decided-left, decided-readable, still-stores, stores-nothing, refused-stores, refused-keeps}
 
@@ -33,7 +34,7 @@ early-stores-nothing e clock = go (recordBad e) (ltb clock (e .lastclock) || ltb
 -- an arrival put together of its outcome and what is heard
 abbrev arrivedWith : Outcome → List ℕ → Arrived
 arrivedWith o l = record {
-  answer = record { refusal = o .refusal; due = o .due; reset = o .reset; s = o .s; dropped = o .dropped; samples = l };
+  answer = record { refusal = o .refusal; due = o .due; reset = o .reset; s = o .s; dropped = o .dropped; width = o .width; samples = l };
   after = o .after;
 }
 
@@ -66,13 +67,11 @@ module _ (e : Endpoint) (f : List ℕ) (clock : ℕ) where
       (orElse-take (refusal14 e orElse refusal18 e clock) (voiceRefusal f) first p h ∙ sym (orElse-assoc (refusal14 e) (refusal18 e clock) (voiceRefusal f))) h
       (ap stillStores p ∙ early-stores-nothing e clock)
 
-  pub outcome-is : (d : Decision) (s dropped reset : ℕ) → d ≡ frameDecision e f clock
-      → (s ≡ heardOf (d .refusal) f .s) × (dropped ≡ heardOf (d .refusal) f .dropped) → reset ≡ resetOf (d .refusal) f
-      → _≡_ {A = Outcome} (record { refusal = d .refusal; due = d .due; reset = reset; s = s; dropped = dropped; after = d .after }) (outcomeOf (arrivalOf e f clock))
+  pub outcome-is : (d : Decision) (t : Told) (reset : ℕ) → d ≡ frameDecision e f clock → t ≡ toldOf (heardOf (d .refusal) f) → reset ≡ resetOf (d .refusal) f
+      → _≡_ {A = Outcome} (record { refusal = d .refusal; due = d .due; reset = reset; s = t .s; dropped = t .dropped; width = t .width; after = d .after }) (outcomeOf (arrivalOf e f clock))
   unfolding arrivalOf arrivalBy
-  outcome-is d s dropped reset p q r =
-      ap₂ (λ (x y : ℕ). record { refusal = d .refusal; due = d .due; reset = reset; s = x; dropped = y; after = d .after }) (q .0) (q .1)
-      ∙ ap (λ (x : ℕ). record { refusal = d .refusal; due = d .due; reset = x; s = heardOf (d .refusal) f .s; dropped = heardOf (d .refusal) f .dropped; after = d .after }) r
+  outcome-is d t reset p q r =
+      ap₂ (λ (x : Told) (y : ℕ). record { refusal = d .refusal; due = d .due; reset = y; s = x .s; dropped = x .dropped; width = x .width; after = d .after }) q r
       ∙ ap (λ (x : Decision). outcomeOf (arrivalBy x f)) p
 
   -- where the outcome is 0, the frame can be read
@@ -146,12 +145,13 @@ module _ (e : Endpoint) (f : List ℕ) (clock : ℕ) where
       let d = decided-scheduled e clock (voiceRefusal f) (stamp f) (sequence f) (moreBit f) (noise f) z in
       (ap (λ x. x .due) d, ap (λ x. x .after) d)
 
-  -- S, the number dropped and the samples of a scheduled frame are those of the reader
+  -- S, the number dropped, the width and the samples of a scheduled frame are those of the reader
   pub arrival-reads : arrivalOf e f clock .answer .refusal ≡ 0
       → (arrivalOf e f clock .answer .s ≡ readAnswer f .s)
       × (arrivalOf e f clock .answer .dropped ≡ readAnswer f .dropped)
+      × (arrivalOf e f clock .answer .width ≡ readAnswer f .width)
       × (arrivalOf e f clock .answer .samples ≡ readAnswer f .samples)
   unfolding arrivalOf arrivalBy readAnswer
   arrival-reads z =
       let n : frameDecision e f clock .refusal ≡ voiceRefusal f = z ∙ sym (arrival-readable z) in
-      (ap (λ k. heardOf k f .s) n, ap (λ k. heardOf k f .dropped) n, ap (λ k. heardOf k f .samples) n)
+      (ap (λ k. heardOf k f .s) n, ap (λ k. heardOf k f .dropped) n, ap (λ k. heardOf k f .width) n, ap (λ k. heardOf k f .samples) n)

@@ -17,7 +17,7 @@ use Rattle.frame.proofs.IgnoredLaws.{same-m, same-c, same-stamp, same-more, sam
 use Rattle.playout.specs.declared.Endpoint.{Endpoint}
 use Rattle.playout.specs.declared.Decision.{Decision}
 use Rattle.playout.specs.Play.{refusal14, refusal18, stillStores}
-use Rattle.endpoint.specs.Read.{bitsOf, droppedOf, samplesOf, heardOf, readAnswer}
+use Rattle.endpoint.specs.Read.{widthOf, samplesOf, heardOf, readAnswer}
 use Rattle.endpoint.specs.Arrival.{frameDecision, resetOf, arrivalBy, arrivalOf}
 use Rattle.endpoint.specs.Signal.{signalOrder, signalAnswer}
 use Rattle.endpoint.proofs.ReadLaws.{voice-size}
@@ -53,7 +53,7 @@ module _ (g f : List ℕ) where
       let n = voice-size f h in
       let coded = same-coding g f (voice-taken f h .1) in
       simp (coded, same-m g f, same-c g f)
-      (samples-alike (drop 8 (withIgnored g f)) (drop 8 f) (bitsOf f) (length f - 10) (bitsOf f - droppedOf f) (omega arith) (same-field g f))
+      (samples-alike (drop 8 (withIgnored g f)) (drop 8 f) (widthOf f) (length f - 10) (widthOf f) (omega arith) (same-field g f))
 
   heard-same : (n : ℕ) → (n ≡ 0 → voiceRefusal f ≡ 0) → heardOf n (withIgnored g f) ≡ heardOf n f
   unfolding heardOf

@@ -5,3 +5,4 @@ pub mod IgnoredLaws
 pub mod LateLaws
 pub mod OneOutcome
 pub mod ReadLaws
+pub mod WidthLaws

@@ -29,6 +29,7 @@ arrivalBy d f = record {
     reset = resetOf (d .refusal) f;
     s = heardOf (d .refusal) f .s;
     dropped = heardOf (d .refusal) f .dropped;
+    width = heardOf (d .refusal) f .width;
     samples = heardOf (d .refusal) f .samples;
   };
   after = d .after;

@@ -1,4 +1,4 @@
--- Document 01, "Blocks": what the voice reader answers. Reading starts from 128 samples of zero and adds the blocks present.
+-- Document 01, "Blocks", amended by request A9: what the voice reader answers. Reading starts from 128 samples of zero and adds the blocks present.
 use Prim.Native.Nat.{ℕ, _-_}
 use mathlib.Core.List.{List}
 use lib.ListN.{drop, replicate}
@@ -17,16 +17,20 @@ bitsOf f = sampleBits (coding f)
 abbrev pub droppedOf : List ℕ → ℕ
 droppedOf f = fieldM f - fieldC f
 
--- the 128 samples of the blocks present, S-(M-C) of them; bits of dropped blocks stay zero
-unfoldable pub samplesOf : List ℕ → List ℕ
-samplesOf f = samples (drop 8 f) (bitsOf f) (bitsOf f - droppedOf f)
+-- the width that is left, S-(M-C): a bit for each block present
+abbrev pub widthOf : List ℕ → ℕ
+widthOf f = bitsOf f - droppedOf f
 
--- S, the number dropped and the samples where nothing is refused; else the number, and zeros elsewhere
+-- the blocks present, read at the width that is left: each sample divided by 2 ^ (M-C), as `at-width` of `blocks` says
+unfoldable pub samplesOf : List ℕ → List ℕ
+samplesOf f = samples (drop 8 f) (widthOf f) (widthOf f)
+
+-- S, the number dropped, the width and the samples where nothing is refused; else the number, and zeros elsewhere
 unfoldable pub heardOf : ℕ → List ℕ → Heard
 heardOf n f =
     ifTaken n
-    (record { refusal = 0; s = bitsOf f; dropped = droppedOf f; samples = samplesOf f })
-    (record { refusal = n; s = 0; dropped = 0; samples = replicate 128 0 })
+    (record { refusal = 0; s = bitsOf f; dropped = droppedOf f; width = widthOf f; samples = samplesOf f })
+    (record { refusal = n; s = 0; dropped = 0; width = 0; samples = replicate 128 0 })
 
 -- the reader alone, without a record or clock
 unfoldable pub readAnswer : List ℕ → Heard

@@ -30,7 +30,7 @@ ghost use lib.ListN.{length, drop, replicate};
 ghost use Rattle.frame.specs.Orders.{voiceRefusal};
 ghost use Rattle.playout.specs.Play.{freshRecord};
 ghost use Rattle.endpoint.specs.Arrival.{frameDecision, resetOf, arrivalOf};
-ghost use Rattle.endpoint.specs.Outcome.{outcomeOf};
+ghost use Rattle.endpoint.specs.Outcome.{toldOf, outcomeOf};
 ghost use Rattle.endpoint.specs.Fill.{fillOf};
 ghost use Rattle.endpoint.specs.Read.{samplesOf, heardOf, readAnswer};
 ghost use Rattle.endpoint.specs.Signal.{signalOrder, signalAnswer};
@@ -52,18 +52,27 @@ pub fn fresh(buildout: u8) -> Endpoint
 pub struct Told {
     pub s: u8,
     pub dropped: u8,
+    pub width: u8,
 }
 
 pub fn tell(n: u8, frame: &[u8]) -> Told
-    ensures { λ r. ⌜ (r .s ≡ heardOf n (now (frame .entry)) .s) × (r .dropped ≡ heardOf n (now (frame .entry)) .dropped) ⌝ }
+    ensures { λ r. ⌜ r ≡ toldOf (heardOf n (now (frame .entry))) ⌝ }
 {
     if n != 0 {
-        return Told { s: 0, dropped: 0 };
+        return Told {
+            s: 0,
+            dropped: 0,
+            width: 0,
+        };
     }
-    let dropped = less(field_m(frame), field_c(frame));
+    let s = coding_of(frame).sample_bits();
+    let c = field_c(frame);
+    let dropped = less(field_m(frame), c);
+    let width = less(wide(s), dropped);
     Told {
-        s: coding_of(frame).sample_bits(),
+        s: s,
         dropped: dropped as u8,
+        width: width as u8,
     }
 }
 
@@ -77,15 +86,13 @@ fn quiet(samples: &mut [u8])
     }
 }
 
-// The samples of a frame that no number refuses. `hear_into` has the room.
+// The words of a frame that no number refuses: its blocks, read at as many bits as there are blocks. `hear_into` has the room.
 fn blocks_into(frame: &[u8], samples: &mut [u8])
     requires { ⌜ (voiceRefusal (now frame) ≡ 0) × (128 ≤ length (now samples)) ⌝ }
     ensures { λ _. ⌜ now (samples .exit) ≡ samplesOf (now (frame .entry)) ++ drop 128 (now (samples .entry)) ⌝ }
 {
     let t = tell(0, frame);
-    let bits = wide(t.s);
-    let present = less(bits, wide(t.dropped));
-    let heard = read_blocks(&*frame, bits, present);
+    let heard = read_blocks(&*frame, wide(t.width), wide(t.width));
     octets::copy(&heard, samples);
 }
 
@@ -106,6 +113,7 @@ pub struct Heard {
     pub refusal: u8,
     pub s: u8,
     pub dropped: u8,
+    pub width: u8,
     pub samples: [u8; 128],
 }
 
@@ -121,6 +129,7 @@ pub fn read(frame: &[u8]) -> Heard
         refusal: n,
         s: t.s,
         dropped: t.dropped,
+        width: t.width,
         samples: samples,
     }
 }
@@ -131,6 +140,7 @@ pub struct Arrival {
     pub reset: u8,
     pub s: u8,
     pub dropped: u8,
+    pub width: u8,
     pub samples: [u8; 128],
 }
 
@@ -184,6 +194,7 @@ pub struct Outcome {
     pub reset: u8,
     pub s: u8,
     pub dropped: u8,
+    pub width: u8,
     pub after: Endpoint,
 }
 
@@ -200,6 +211,7 @@ pub fn judge(e: Endpoint, frame: &[u8], clock: u64) -> Outcome
         reset: reset_of(n, frame),
         s: t.s,
         dropped: t.dropped,
+        width: t.width,
         after: after,
     }
 }
@@ -219,6 +231,7 @@ pub fn arrive_value(e: Endpoint, frame: &[u8], clock: u64) -> Arrived
             reset: o.reset,
             s: o.s,
             dropped: o.dropped,
+            width: o.width,
             samples: samples,
         },
         after: after,

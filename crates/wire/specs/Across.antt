@@ -2,11 +2,9 @@
 use Prim.Native.Nat.{ℕ, _+_}
 use mathlib.Core.List.{List, [], map}
 use lib.ListN.{length}
-use Rattle.coding.specs.Coding.{sampleBits}
-use Rattle.blocks.specs.Blocks.{cleared}
 use Rattle.endpoint.specs.declared.Heard.{Heard}
 use Rattle.endpoint.specs.Read.{readAnswer}
-use Rattle.chain.specs.Chain.{Origin, sent, lost}
+use Rattle.chain.specs.Chain.{Origin, sent, whatIsHeard}
 use Rattle.wire.specs.Wire.{bufferAfter, countAfter, Call, calls}
 
 -- what calls of `origin::send` sent is added to a line begun empty, and taken off it by one call of `next` for each and n more
@@ -17,6 +15,6 @@ crossed os n buffer out = calls (length os + n) (bufferAfter buffer 0 (map sent 
 abbrev pub hears : Call → Heard
 hears c = readAnswer (c .heard)
 
--- the samples that `origin::send` was given, those bits zero that it dropped
+-- the samples that `origin::send` was given, at the width that it left them: no node is on the way
 abbrev pub given : Origin → Heard
-given o = record { refusal = 0; s = sampleBits (o .coding); dropped = lost o []; samples = map (cleared (lost o [])) (o .samples) }
+given o = whatIsHeard o []

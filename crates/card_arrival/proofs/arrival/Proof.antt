@@ -56,6 +56,9 @@ cast-t41 c = omega arith
 cast-t42 : tie.Need-cast-t42
 cast-t42 c = omega arith
 
+cast-t43 : tie.Need-cast-t43
+cast-t43 c = omega arith
+
 slice-aggregate-put-2 : tie.Need-slice-aggregate-put-2
 slice-aggregate-put-2 c = omega arith
 
@@ -69,14 +72,14 @@ slice-aggregate-put-3 : tie.Need-slice-aggregate-put-3
 slice-aggregate-put-3 c = omega arith
 
 put-requires-3 : tie.Need-put-requires-3
-put-requires-3 c κs = omega arith
+put-requires-3 c κs = let start = c .before .before .before .before .before .before .before .before .before .before .before .before .before .before .before .before .before .before .before in omega (arith, start .pre .0)
 
 hear-into-requires : tie.Need-hear-into-requires
 hear-into-requires c κs =
-    let o = c .before .before .before .before .before .before .before .before .before .before .before .before .before .before .before .before .judge in
-    let start = c .before .before .before .before .before .before .before .before .before .before .before .before .before .before .before .before .before .before .before .before .before .before in
+    let o = c .before .before .before .before .before .before .before .before .before .before .before .before .before .before .before .before .before in
+    let start = o .before .before .before .before .before .before in
     let a = start .args in
-    (λ z. outcome-readable (recordWith (a .buildout) (a .rseq) (a .lastclock) (a .end) (a .mlast) (a .lastnoise)) (a .frame .now) (a .clock) (o .result) (o .ensures) z, start .pre .2)
+    (λ z. outcome-readable (recordWith (a .buildout) (a .rseq) (a .lastclock) (a .end) (a .mlast) (a .lastnoise)) (a .frame .now) (a .clock) (o .judge .result) (o .judge .ensures) z, start .pre .2)
 
 same-length-4 : tie.Need-same-length-4
 same-length-4 c = omega arith
@@ -93,9 +96,9 @@ returns-2 c =
     let q = c .before .before .before .before .before .before .put3 in
     let m = c .before .before .before .before .before .before .before .before .before .record-numbers in
     let p = c .before .before .before .before .before .before .before .before .before .before .before .before .before .put2 in
-    let o = c .before .before .before .before .before .before .before .before .before .before .before .before .before .before .before .before .before .before .before .judge in
-    let a = c .before .before .before .before .before .before .before .before .before .before .before .before .before .before .before .before .before .before .before .before .before .before .before .before .before .args in
-    by-outcome (recordWith (a .buildout) (a .rseq) (a .lastclock) (a .end) (a .mlast) (a .lastnoise)) (a .frame .now) (a .clock) (a .after .now) (a .answer .now) (a .samples .now) (o .result) (o .ensures)
+    let o = c .before .before .before .before .before .before .before .before .before .before .before .before .before .before .before .before .before .before .before .before in
+    let a = o .before .before .before .before .before .before .args in
+    by-outcome (recordWith (a .buildout) (a .rseq) (a .lastclock) (a .end) (a .mlast) (a .lastnoise)) (a .frame .now) (a .clock) (a .after .now) (a .answer .now) (a .samples .now) (o .judge .result) (o .judge .ensures)
     (m .result) (q .last .1 .0) (p .last .1 .0) (h .last .1 .1 .0) (m .ensures) (q .ensures) (p .ensures) (h .ensures)
 
 pub arrival-spec : {M : Type 1} → statement M
@@ -117,6 +120,7 @@ arrival-spec =
     cast-t40
     cast-t41
     cast-t42
+    cast-t43
     slice-aggregate-put-2
     put-requires-2
     record-numbers-requires

@@ -13,7 +13,7 @@ short-two-requires c κs = tt
 returns : tie.Need-returns
 returns c =
     let a = c .before .before .before .before .before .before .args in
-    not-arrived (shortTwo 4 (a .answer .now) 128 (a .samples .now)) (c .before .short-two .result) (a .kept .now) (a .frame .now) (a .clock) (a .answer .now) (a .samples .now) (a .kept .now) (c .before .short-two .ensures) (c .if1 .taken)
+    not-arrived (shortTwo 5 (a .answer .now) 128 (a .samples .now)) (c .before .short-two .result) (a .kept .now) (a .frame .now) (a .clock) (a .answer .now) (a .samples .now) (a .kept .now) (c .before .short-two .ensures) (c .if1 .taken)
 
 record-refusal-requires : tie.Need-record-refusal-requires
 record-refusal-requires c κs = tt
@@ -21,7 +21,7 @@ record-refusal-requires c κs = tt
 no-record-requires : tie.Need-no-record-requires
 no-record-requires c κs =
     let a = c .before .before .before .before .before .before .before .before .before .before .args in
-    roomy-two (length (a .answer .now)) 4 (length (a .samples .now)) 128 (c .before .before .before .before .before .short-two .ensures) (c .before .before .before .before .if1 .left)
+    roomy-two (length (a .answer .now)) 5 (length (a .samples .now)) 128 (c .before .before .before .before .before .short-two .ensures) (c .before .before .before .before .if1 .left)
 
 same-length : tie.Need-same-length
 same-length c = omega arith
@@ -34,7 +34,7 @@ returns-2 c =
     let n = c .before .before .before .before .no-record in
     let m = c .before .before .before .before .before .before .before .before .record-refusal in
     let a = c .before .before .before .before .before .before .before .before .before .before .before .before .before .before .before .args in
-    on-no-record (shortTwo 4 (a .answer .now) 128 (a .samples .now)) (c .before .before .before .before .before .before .before .before .before .before .short-two .result) (a .kept .now) (a .frame .now) (a .clock) (a .answer .now) (a .samples .now) (a .kept .now) (c .before .before .before .before .before .before .before .before .before .before .short-two .ensures) (c .before .before .before .before .before .before .before .before .before .if1 .left) (m .result) (m .ensures) (c .before .before .before .before .before .before .before .if2 .taken)
+    on-no-record (shortTwo 5 (a .answer .now) 128 (a .samples .now)) (c .before .before .before .before .before .before .before .before .before .before .short-two .result) (a .kept .now) (a .frame .now) (a .clock) (a .answer .now) (a .samples .now) (a .kept .now) (c .before .before .before .before .before .before .before .before .before .before .short-two .ensures) (c .before .before .before .before .before .before .before .before .before .if1 .left) (m .result) (m .ensures) (c .before .before .before .before .before .before .before .if2 .taken)
     (n .result) (n .last .1 .0) (n .last .1 .1 .0) (n .ensures .0) (n .ensures .1 .0) (n .ensures .1 .1)
 
 slice-read-arrival : tie.Need-slice-read-arrival
@@ -58,7 +58,7 @@ slice-read-arrival-6 c = let e = six (length (c .before .before .before .before 
 arrival-requires : tie.Need-arrival-requires
 arrival-requires c κs =
     let a = c .before .before .before .before .before .before .before .before .before .before .before .before .before .before .before .before .before .args in
-    let r = roomy-two (length (a .answer .now)) 4 (length (a .samples .now)) 128 (c .before .before .before .before .before .before .before .before .before .before .before .before .short-two .ensures) (c .before .before .before .before .before .before .before .before .before .before .before .if1 .left) in
+    let r = roomy-two (length (a .answer .now)) 5 (length (a .samples .now)) 128 (c .before .before .before .before .before .before .before .before .before .before .before .before .short-two .ensures) (c .before .before .before .before .before .before .before .before .before .before .before .if1 .left) in
     (six-room (length (a .kept .now)) (c .before .before .before .before .before .before .before .before .before .before .record-refusal .ensures) (c .before .before .before .before .before .before .before .before .before .if2 .left), r .0, r .1)
 
 same-length-3 : tie.Need-same-length-3
@@ -75,7 +75,7 @@ returns-3 c =
     let n = c .before .before .before .before .before .before .arrival in
     let m = c .before .before .before .before .before .before .before .before .before .before .before .before .before .before .before .before .before .record-refusal in
     let a = c .before .before .before .before .before .before .before .before .before .before .before .before .before .before .before .before .before .before .before .before .before .before .before .before .args in
-    on-record (shortTwo 4 (a .answer .now) 128 (a .samples .now)) (c .before .before .before .before .before .before .before .before .before .before .before .before .before .before .before .before .before .before .before .short-two .result) (a .kept .now) (a .frame .now) (a .clock) (a .answer .now) (a .samples .now) (a .kept .now) (c .before .before .before .before .before .before .before .before .before .before .before .before .before .before .before .before .before .before .before .short-two .ensures) (c .before .before .before .before .before .before .before .before .before .before .before .before .before .before .before .before .before .before .if1 .left) (m .result) (m .ensures) (c .before .before .before .before .before .before .before .before .before .before .before .before .before .before .before .before .if2 .left)
+    on-record (shortTwo 5 (a .answer .now) 128 (a .samples .now)) (c .before .before .before .before .before .before .before .before .before .before .before .before .before .before .before .before .before .before .before .short-two .result) (a .kept .now) (a .frame .now) (a .clock) (a .answer .now) (a .samples .now) (a .kept .now) (c .before .before .before .before .before .before .before .before .before .before .before .before .before .before .before .before .before .before .before .short-two .ensures) (c .before .before .before .before .before .before .before .before .before .before .before .before .before .before .before .before .before .before .if1 .left) (m .result) (m .ensures) (c .before .before .before .before .before .before .before .before .before .before .before .before .before .before .before .before .if2 .left)
     (n .result) (n .last .1 .1 .1 .1 .1 .1 .1 .1 .0) (n .last .1 .1 .1 .1 .1 .1 .1 .1 .1 .0) (n .last .1 .1 .1 .1 .1 .1 .1 .1 .1 .1 .0) (n .ensures .0) (n .ensures .1 .0) (n .ensures .1 .1 .0) (n .ensures .1 .1 .1)
 
 pub pelgrant-arrive-spec : {M : Type 1} → statement M

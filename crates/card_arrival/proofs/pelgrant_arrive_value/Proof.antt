@@ -22,7 +22,7 @@ or-else-requires c κs = tt
 returns : tie.Need-returns
 returns c =
     let a = c .before .before .before .before .before .before .before .before .before .args in
-    not-arrived (short 6 (a .after .now) orElse shortTwo 4 (a .answer .now) 128 (a .samples .now)) (c .before .or-else .result) (a .kept .now) (a .frame .now) (a .clock) (a .answer .now) (a .samples .now) (a .after .now) (both (c .before .or-else .ensures) (c .before .before .refusal-16 .ensures) (c .before .before .before .short-two .ensures)) (c .if1 .taken)
+    not-arrived (short 6 (a .after .now) orElse shortTwo 5 (a .answer .now) 128 (a .samples .now)) (c .before .or-else .result) (a .kept .now) (a .frame .now) (a .clock) (a .answer .now) (a .samples .now) (a .after .now) (both (c .before .or-else .ensures) (c .before .before .refusal-16 .ensures) (c .before .before .before .short-two .ensures)) (c .if1 .taken)
 
 record-refusal-requires : tie.Need-record-refusal-requires
 record-refusal-requires c κs = tt
@@ -31,7 +31,7 @@ no-record-requires : tie.Need-no-record-requires
 no-record-requires c κs =
     let a = c .before .before .before .before .before .before .before .before .before .before .before .before .before .args in
     let none = orElse-zero (c .before .before .before .before .before .before .refusal-16 .result) (c .before .before .before .before .before .before .before .short-two .result) (sym (c .before .before .before .before .before .or-else .ensures) ∙ c .before .before .before .before .if1 .left) in
-    roomy-two (length (a .answer .now)) 4 (length (a .samples .now)) 128 (c .before .before .before .before .before .before .before .short-two .ensures) (none .1)
+    roomy-two (length (a .answer .now)) 5 (length (a .samples .now)) 128 (c .before .before .before .before .before .before .before .short-two .ensures) (none .1)
 
 same-length : tie.Need-same-length
 same-length c = omega arith
@@ -44,7 +44,7 @@ returns-2 c =
     let n = c .before .before .before .before .no-record in
     let m = c .before .before .before .before .before .before .before .before .record-refusal in
     let a = c .before .before .before .before .before .before .before .before .before .before .before .before .before .before .before .before .before .before .args in
-    on-no-record (short 6 (a .after .now) orElse shortTwo 4 (a .answer .now) 128 (a .samples .now)) (c .before .before .before .before .before .before .before .before .before .before .or-else .result) (a .kept .now) (a .frame .now) (a .clock) (a .answer .now) (a .samples .now) (a .after .now) (both (c .before .before .before .before .before .before .before .before .before .before .or-else .ensures) (c .before .before .before .before .before .before .before .before .before .before .before .refusal-16 .ensures) (c .before .before .before .before .before .before .before .before .before .before .before .before .short-two .ensures)) (c .before .before .before .before .before .before .before .before .before .if1 .left) (m .result) (m .ensures) (c .before .before .before .before .before .before .before .if2 .taken)
+    on-no-record (short 6 (a .after .now) orElse shortTwo 5 (a .answer .now) 128 (a .samples .now)) (c .before .before .before .before .before .before .before .before .before .before .or-else .result) (a .kept .now) (a .frame .now) (a .clock) (a .answer .now) (a .samples .now) (a .after .now) (both (c .before .before .before .before .before .before .before .before .before .before .or-else .ensures) (c .before .before .before .before .before .before .before .before .before .before .before .refusal-16 .ensures) (c .before .before .before .before .before .before .before .before .before .before .before .before .short-two .ensures)) (c .before .before .before .before .before .before .before .before .before .if1 .left) (m .result) (m .ensures) (c .before .before .before .before .before .before .before .if2 .taken)
     (n .result) (n .last .1 .0) (n .last .1 .1 .0) (n .ensures .0) (n .ensures .1 .0) (n .ensures .1 .1)
 
 shared-slice-read-arrival : tie.Need-shared-slice-read-arrival
@@ -69,7 +69,7 @@ arrival-requires : tie.Need-arrival-requires
 arrival-requires c κs =
     let a = c .before .before .before .before .before .before .before .before .before .before .before .before .before .before .before .before .before .before .before .before .args in
     let none = orElse-zero (c .before .before .before .before .before .before .before .before .before .before .before .before .before .refusal-16 .result) (c .before .before .before .before .before .before .before .before .before .before .before .before .before .before .short-two .result) (sym (c .before .before .before .before .before .before .before .before .before .before .before .before .or-else .ensures) ∙ c .before .before .before .before .before .before .before .before .before .before .before .if1 .left) in
-    let r = roomy-two (length (a .answer .now)) 4 (length (a .samples .now)) 128 (c .before .before .before .before .before .before .before .before .before .before .before .before .before .before .short-two .ensures) (none .1) in
+    let r = roomy-two (length (a .answer .now)) 5 (length (a .samples .now)) 128 (c .before .before .before .before .before .before .before .before .before .before .before .before .before .before .short-two .ensures) (none .1) in
     (roomy (c .before .before .before .before .before .before .before .before .before .before .before .before .before .refusal-16 .ensures) (none .0), r .0, r .1)
 
 same-length-3 : tie.Need-same-length-3
@@ -86,7 +86,7 @@ returns-3 c =
     let n = c .before .before .before .before .before .before .arrival in
     let m = c .before .before .before .before .before .before .before .before .before .before .before .before .before .before .before .before .before .record-refusal in
     let a = c .before .before .before .before .before .before .before .before .before .before .before .before .before .before .before .before .before .before .before .before .before .before .before .before .before .before .before .args in
-    on-record (short 6 (a .after .now) orElse shortTwo 4 (a .answer .now) 128 (a .samples .now)) (c .before .before .before .before .before .before .before .before .before .before .before .before .before .before .before .before .before .before .before .or-else .result) (a .kept .now) (a .frame .now) (a .clock) (a .answer .now) (a .samples .now) (a .after .now) (both (c .before .before .before .before .before .before .before .before .before .before .before .before .before .before .before .before .before .before .before .or-else .ensures) (c .before .before .before .before .before .before .before .before .before .before .before .before .before .before .before .before .before .before .before .before .refusal-16 .ensures) (c .before .before .before .before .before .before .before .before .before .before .before .before .before .before .before .before .before .before .before .before .before .short-two .ensures)) (c .before .before .before .before .before .before .before .before .before .before .before .before .before .before .before .before .before .before .if1 .left) (m .result) (m .ensures) (c .before .before .before .before .before .before .before .before .before .before .before .before .before .before .before .before .if2 .left)
+    on-record (short 6 (a .after .now) orElse shortTwo 5 (a .answer .now) 128 (a .samples .now)) (c .before .before .before .before .before .before .before .before .before .before .before .before .before .before .before .before .before .before .before .or-else .result) (a .kept .now) (a .frame .now) (a .clock) (a .answer .now) (a .samples .now) (a .after .now) (both (c .before .before .before .before .before .before .before .before .before .before .before .before .before .before .before .before .before .before .before .or-else .ensures) (c .before .before .before .before .before .before .before .before .before .before .before .before .before .before .before .before .before .before .before .before .refusal-16 .ensures) (c .before .before .before .before .before .before .before .before .before .before .before .before .before .before .before .before .before .before .before .before .before .short-two .ensures)) (c .before .before .before .before .before .before .before .before .before .before .before .before .before .before .before .before .before .before .if1 .left) (m .result) (m .ensures) (c .before .before .before .before .before .before .before .before .before .before .before .before .before .before .before .before .if2 .left)
     (n .result) (n .last .1 .1 .1 .1 .1 .1 .1 .1 .0) (n .last .1 .1 .1 .1 .1 .1 .1 .1 .1 .0) (n .last .1 .1 .1 .1 .1 .1 .1 .1 .1 .1 .0) (n .ensures .0) (n .ensures .1 .0) (n .ensures .1 .1 .0) (n .ensures .1 .1 .1)
 
 pub pelgrant-arrive-value-spec : {M : Type 1} → statement M

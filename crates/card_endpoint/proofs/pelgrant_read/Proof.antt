@@ -29,14 +29,26 @@ cast-t13 c = omega arith
 cast-t14 : tie.Need-cast-t14
 cast-t14 c = omega arith
 
+cast-t15 : tie.Need-cast-t15
+cast-t15 c = omega arith
+
 slice-aggregate-put : tie.Need-slice-aggregate-put
 slice-aggregate-put c = refl
 
 put-requires : tie.Need-put-requires
-put-requires c κs = roomy-two (length (c .before .before .before .before .before .before .before .before .before .before .before .args .answer .now)) 2 (length (c .before .before .before .before .before .before .before .before .before .before .before .args .samples .now)) 128 (c .before .before .before .before .before .before .before .short-two .ensures) (c .before .before .before .before .before .before .if1 .left) .0
+put-requires c κs =
+    let left = c .before .before .before .before .before .before .before in
+    let two = left .before in
+    let a = two .before .before .before .before .args in
+    roomy-two (length (a .answer .now)) 3 (length (a .samples .now)) 128 (two .short-two .ensures) (left .if1 .left) .0
 
 hear-into-requires : tie.Need-hear-into-requires
-hear-into-requires c κs = (λ z. sym (c .before .before .before .before .before .before .before .before .before .voice-refusal .ensures) ∙ z, roomy-two (length (c .before .before .before .before .before .before .before .before .before .before .before .before .before .before .before .args .answer .now)) 2 (length (c .before .before .before .before .before .before .before .before .before .before .before .before .before .before .before .args .samples .now)) 128 (c .before .before .before .before .before .before .before .before .before .before .before .short-two .ensures) (c .before .before .before .before .before .before .before .before .before .before .if1 .left) .1)
+hear-into-requires c κs =
+    let v = c .before .before .before .before .before .before .before .before .before .before in
+    let left = v .before in
+    let two = left .before in
+    let a = two .before .before .before .before .args in
+    (λ z. sym (v .voice-refusal .ensures) ∙ z, roomy-two (length (a .answer .now)) 3 (length (a .samples .now)) 128 (two .short-two .ensures) (left .if1 .left) .1)
 
 same-length : tie.Need-same-length
 same-length c = search needs
@@ -48,12 +60,14 @@ returns-2 : tie.Need-returns-2
 returns-2 c =
     let h = c .before .before .hear-into in
     let p = c .before .before .before .before .before .before .put in
-    let t = c .before .before .before .before .before .before .before .before .before .before .before .tell in
-    let v = c .before .before .before .before .before .before .before .before .before .before .before .before .voice-refusal in
-    let a = c .before .before .before .before .before .before .before .before .before .before .before .before .before .before .before .before .before .before .args in
+    let t = c .before .before .before .before .before .before .before .before .before .before .before .before .tell in
+    let v = c .before .before .before .before .before .before .before .before .before .before .before .before .before .voice-refusal in
+    let left = c .before .before .before .before .before .before .before .before .before .before .before .before .before .before in
+    let two = left .before in
+    let a = two .before .before .before .before .args in
     let right = readAnswer (a .frame .now) in
-    filled _ _ (right .refusal) (heardNumbers right) _ (right .samples) _ (c .before .before .before .before .before .before .before .before .before .before .before .before .before .before .short-two .ensures) (c .before .before .before .before .before .before .before .before .before .before .before .before .before .if1 .left) _ _ _
-    (read-number (v .result) (a .frame .now) (v .ensures)) (p .ensures) (read-numbers (v .result) (a .frame .now) (v .ensures) (t .result .s) (t .result .dropped) (t .ensures))
+    filled _ _ (right .refusal) (heardNumbers right) (a .answer .now) (right .samples) (a .samples .now) (two .short-two .ensures) (left .if1 .left) _ _ _
+    (read-number (v .result) (a .frame .now) (v .ensures)) (p .ensures) (read-numbers (v .result) (a .frame .now) (v .ensures) (t .result) (t .ensures))
     (copied (heardOf (v .result) (a .frame .now) .samples) (a .samples .now) (h .last .1 .1 .0) (heard-behind (v .result) (a .frame .now) (a .samples .now) (h .last .1 .1 .0) (h .ensures)))
     (read-samples (v .result) (a .frame .now) (v .ensures))
 
@@ -67,6 +81,7 @@ pelgrant-read-spec =
     tell-requires
     cast-t13
     cast-t14
+    cast-t15
     slice-aggregate-put
     put-requires
     hear-into-requires

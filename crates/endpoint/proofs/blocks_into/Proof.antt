@@ -13,16 +13,13 @@ wide-requires c κs = tt
 wide-requires-2 : tie.Need-wide-requires-2
 wide-requires-2 c κs = tt
 
-less-requires : tie.Need-less-requires
-less-requires c κs = tt
-
 read-blocks-requires : tie.Need-read-blocks-requires
 read-blocks-requires c κs =
-    let l = c .before .wide2 in
-    let b = c .before .before .wide in
-    let t = c .before .before .before .tell in
-    let start = c .before .before .before .before .before .before in
-    steps-there (start .args .frame .now) (t .result .s) (t .result .dropped) (b .result) (l .result) (c .less .result) (t .ensures) (b .ensures .0) (l .ensures .0) (c .less .ensures) (start .pre .0)
+    let p = c .wide2 in
+    let b = c .before .wide in
+    let t = c .before .before .tell in
+    let start = c .before .before .before .before .before in
+    steps-there (start .args .frame .now) (t .result) (b .result) (p .result) (t .ensures) (b .ensures .0) (p .ensures .0) (start .pre .0)
 
 slice-aggregate-copy : tie.Need-slice-aggregate-copy
 slice-aggregate-copy c = omega arith
@@ -37,12 +34,11 @@ returns : tie.Need-returns
 returns c =
     let q = c .before .before .copy in
     let r = c .before .before .before .before .before in
-    let n = r .before .less in
-    let l = r .before .before .wide2 in
-    let b = r .before .before .before .wide in
-    let t = r .before .before .before .before .tell in
-    let a = r .before .before .before .before .before .before .before .args in
-    steps-heard (a .frame .now) (t .result .s) (t .result .dropped) (b .result) (l .result) (n .result) (t .ensures) (b .ensures .0) (l .ensures .0) (n .ensures)
+    let p = r .before .wide2 in
+    let b = r .before .before .wide in
+    let t = r .before .before .before .tell in
+    let a = r .before .before .before .before .before .before .args in
+    steps-heard (a .frame .now) (t .result) (b .result) (p .result) (t .ensures) (b .ensures .0) (p .ensures .0)
     (r .read-blocks .result) (a .samples .now) (q .last .1 .0) (omega arith) (r .read-blocks .ensures) (q .ensures)
 
 pub blocks-into-spec : {M : Type 1} → statement M
@@ -52,7 +48,6 @@ blocks-into-spec =
     tell-requires
     wide-requires
     wide-requires-2
-    less-requires
     read-blocks-requires
     slice-aggregate-copy
     copy-requires

@@ -17,7 +17,7 @@ returns c =
     let t = c .before .before .tell in
     let d = c .before .before .before .decide-frame in
     let a = c .before .before .before .before .before .args in
-    outcome-is (a .e) (a .frame .now) (a .clock) (d .result) (t .result .s) (t .result .dropped) (c .reset-of .result) (d .ensures) (t .ensures) (c .reset-of .ensures)
+    outcome-is (a .e) (a .frame .now) (a .clock) (d .result) (t .result) (c .reset-of .result) (d .ensures) (t .ensures) (c .reset-of .ensures)
 
 pub judge-spec : {M : Type 1} → statement M
 judge-spec = tie.close (tie.spec decide-frame-requires tell-requires reset-of-requires returns)

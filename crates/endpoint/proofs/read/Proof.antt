@@ -27,7 +27,7 @@ returns c =
     let t = c .before .before .before .tell in
     let v = c .before .before .before .before .voice-refusal in
     let f = c .before .before .before .before .before .before .args .frame .now in
-    heard-of (v .result) f (t .result .s) (t .result .dropped) (h .last .1 .1 .0) (t .ensures) (all-heard (heardOf (v .result) f .samples) (replicate 128 0) (h .last .1 .1 .0) refl (h .ensures))
+    heard-of (v .result) f (t .result) (h .last .1 .1 .0) (t .ensures) (all-heard (heardOf (v .result) f .samples) (replicate 128 0) (h .last .1 .1 .0) refl (h .ensures))
     ∙ ap (λ (n : ℕ). heardOf n f) (v .ensures)
 
 pub read-spec : {M : Type 1} → statement M
