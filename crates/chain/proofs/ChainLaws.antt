@@ -188,7 +188,7 @@ module _ (o : Origin) (z : refusedAt o ≡ 0) where
         let voice : samples (drop 8 f) (S - k) (S - k) ≡ map (divided k) (o .samples) =
         ap (λ (g : List ℕ). samples (drop 8 g) (S - k) (S - k)) (along .1)
         ∙ at-heard o (o .level + levels ns) (waitOf (o .from) (o .to) + waits ns) (lastAddress (o .address) ns) k refl (taken .fit) in
-        rw (none, es, ek, voice)
+        rw (none, es, ek) (ap (λ (l : List ℕ). record { refusal = 0; s = S; dropped = k; width = S - k; samples = l }) voice)
 
 -- with no node it is the first frame itself
 pub no-node : (f : List ℕ) → chain [] f ≡ f
