@@ -1,12 +1,11 @@
 -- Demand 3, proved: any list of nodes behind an origin is one node, and what is heard at its end.
-use Prim.Native.Nat.{ℕ, zero, _+_, _-_, _*_, _/_, _%_, min, _≤_}
+use Prim.Native.Nat.{ℕ, _+_, _-_, _*_, _/_, _%_, min, _≤_}
 use mathlib.Core.Path.{_≡_, refl, ap, ap₂, sym, _∙_}
 use mathlib.Core.Bool.{true, false}
 use mathlib.Core.List.{List, [], _∷_, _++_, map}
 use native.Mathlib.Nat.{add-zero, add-assoc, le-refl}
 use native.Mathlib.Omega.{arith}
 use lib.ListN.{length, drop}
-use Rattle.octets.specs.Octets.{octet}
 use Rattle.refusals.specs.Refusals.{addressBad}
 use Rattle.fcs.specs.Fcs.{fcsOctets}
 use Rattle.coding.specs.Coding.{sampleBits, droppableBits, reserved}

@@ -38,14 +38,20 @@ pub blocks-there : (f : List ℕ) → voiceRefusal f ≡ 0
     → (8 + 16 * widthOf f ≤ length f) × (widthOf f ≤ widthOf f) × (widthOf f ≤ 8)
 blocks-there f h = (omega (arith, voice-size f h), le-refl (widthOf f), omega (arith, s-le-8 (coding f)))
 
-pub heard-taken : (n : ℕ) (f : List ℕ) → n ≡ 0 → heardOf n f ≡ record { refusal = 0; s = bitsOf f; dropped = droppedOf f; width = widthOf f; samples = samplesOf f }
+-- the two answers that there are
+abbrev heardWell : List ℕ → Heard
+heardWell f = record { refusal = 0; s = bitsOf f; dropped = droppedOf f; width = widthOf f; samples = samplesOf f }
+
+abbrev notHeard : ℕ → Heard
+notHeard n = record { refusal = n; s = 0; dropped = 0; width = 0; samples = replicate 128 0 }
+
+pub heard-taken : (n : ℕ) (f : List ℕ) → n ≡ 0 → heardOf n f ≡ heardWell f
 unfolding heardOf
 heard-taken n f z = rw z
 
-pub heard-refused : (n : ℕ) (f : List ℕ) → (n ≡ 0 → ⊥) → heardOf n f ≡ record { refusal = n; s = 0; dropped = 0; width = 0; samples = replicate 128 0 }
+pub heard-refused : (n : ℕ) (f : List ℕ) → (n ≡ 0 → ⊥) → heardOf n f ≡ notHeard n
 unfolding heardOf
-heard-refused n f h =
-    if-refused n (record { refusal = 0; s = bitsOf f; dropped = droppedOf f; width = widthOf f; samples = samplesOf f }) (record { refusal = n; s = 0; dropped = 0; width = 0; samples = replicate 128 0 }) h
+heard-refused n f h = if-refused n (heardWell f) (notHeard n) h
 
 -- a reader's answer, put together of its parts
 pub heard-number : (n : ℕ) (f : List ℕ) → n ≡ heardOf n f .refusal
@@ -70,7 +76,7 @@ pub heard-behind : (n : ℕ) (f slot x : List ℕ) → x ≡ heardOf n f .sample
 heard-behind n f slot x e = e ∙ ap (λ (k : ℕ). heardOf n f .samples ++ drop k slot) (sym (heard-long n f))
 
 -- what is told beside the samples
-pub told-refused : (n : ℕ) (f : List ℕ) (t : Told) → (n ≡ 0 → ⊥) → t ≡ record { s = 0; dropped = 0; width = 0 } → t ≡ toldOf (heardOf n f)
+pub told-refused : (n : ℕ) (f : List ℕ) (t : Told) → (n ≡ 0 → ⊥) → t ≡ toldOf (notHeard n) → t ≡ toldOf (heardOf n f)
 told-refused n f t h e = e ∙ ap toldOf (sym (heard-refused n f h))
 
 pub told-taken : (n : ℕ) (f : List ℕ) (s bits m c dropped width : ℕ) → n ≡ 0 → s ≡ bitsOf f → bits ≡ s → m ≡ fieldM f → c ≡ fieldC f → dropped ≡ m - c → width ≡ bits - dropped
@@ -108,7 +114,7 @@ into-taken n f out x z e = e ∙ ap (λ (r : Heard). r .samples ++ drop 128 out)
 pub all-heard : (l out x : List ℕ) → length out ≡ 128 → x ≡ l ++ drop 128 out → x ≡ l
 all-heard l out x size e = e ∙ ap (λ (r : List ℕ). l ++ r) (drop-of-length-le out {i = 128} (omega arith)) ∙ append-nil l
 
-pub read-taken : (f : List ℕ) → voiceRefusal f ≡ 0 → readAnswer f ≡ record { refusal = 0; s = bitsOf f; dropped = droppedOf f; width = widthOf f; samples = samplesOf f }
+pub read-taken : (f : List ℕ) → voiceRefusal f ≡ 0 → readAnswer f ≡ heardWell f
 unfolding readAnswer
 read-taken f z = heard-taken (voiceRefusal f) f z
 

@@ -1,6 +1,6 @@
 -- Request A9, of any frame: the words that are answered, and the width beside them.
-use Prim.Native.Nat.{ℕ, zero, suc, _-_, _≤_, _<_}
-use mathlib.Core.Path.{_≡_, refl, sym, ap, _∙_}
+use Prim.Native.Nat.{ℕ, zero, suc, _-_, _<_}
+use mathlib.Core.Path.{_≡_, refl}
 use mathlib.Core.Bool.{true, false}
 use mathlib.Core.List.{List, map}
 use native.Mathlib.Nat.{le-of-lt}
@@ -10,11 +10,10 @@ use Rattle.coding.specs.Coding.{droppableBits, reserved}
 use Rattle.coding.proofs.CodingLaws.{d-lt-s}
 use Rattle.blocks.specs.Blocks.{samples, divided, allBelow, samplesFit}
 use Rattle.blocks.proofs.BlocksLaws.{at-width, words-fit}
-use Rattle.frame.specs.Fields.{fieldM, fieldC, coding}
+use Rattle.frame.specs.Fields.{fieldM, coding}
 use Rattle.frame.specs.Orders.{voiceRefusal}
 use Rattle.frame.proofs.FrameLaws.{voice-taken}
 use Rattle.playout.specs.declared.Endpoint.{Endpoint}
-use Rattle.endpoint.specs.declared.Heard.{Heard}
 use Rattle.endpoint.specs.Read.{bitsOf, droppedOf, widthOf, samplesOf, heardOf, readAnswer}
 use Rattle.endpoint.specs.Arrival.{frameDecision, arrivalBy, arrivalOf}
 use Rattle.endpoint.proofs.ReadLaws.{read-taken}
