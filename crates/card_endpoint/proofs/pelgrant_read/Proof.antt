@@ -1,4 +1,5 @@
 -- `card_endpoint::pelgrant_read` meets its contract.
+use Prim.Native.Nat.{_≤_}
 use mathlib.Core.Path.{refl, sym, _∙_}
 use native.Mathlib.Omega.{arith}
 use lib.ListN.{length}
@@ -10,6 +11,10 @@ use Rattle.card_endpoint.proofs.HearingLaws.{read-number, read-numbers,
 use borrow.Author.Needs.{needs}
 use Rattle.card_endpoint.proofs.pelgrant_read.Statement.{statement}
 use Rattle.card_endpoint.proofs.pelgrant_read.Tie as tie
+
+-- both slices are long enough where the frame is looked at
+room : (c : tie.Else1) → let a = c .before .before .before .before .before .args in (3 ≤ length (a .answer .now)) × (128 ≤ length (a .samples .now))
+room c = let a = c .before .before .before .before .before .args in roomy-two (length (a .answer .now)) 3 (length (a .samples .now)) 128 (c .before .short-two .ensures) (c .if1 .left)
 
 short-two-requires : tie.Need-short-two-requires
 short-two-requires c κs = tt
@@ -36,19 +41,10 @@ slice-aggregate-put : tie.Need-slice-aggregate-put
 slice-aggregate-put c = refl
 
 put-requires : tie.Need-put-requires
-put-requires c κs =
-    let left = c .before .before .before .before .before .before .before in
-    let two = left .before in
-    let a = two .before .before .before .before .args in
-    roomy-two (length (a .answer .now)) 3 (length (a .samples .now)) 128 (two .short-two .ensures) (left .if1 .left) .0
+put-requires c κs = room (c .before .before .before .before .before .before .before) .0
 
 hear-into-requires : tie.Need-hear-into-requires
-hear-into-requires c κs =
-    let v = c .before .before .before .before .before .before .before .before .before .before in
-    let left = v .before in
-    let two = left .before in
-    let a = two .before .before .before .before .args in
-    (λ z. sym (v .voice-refusal .ensures) ∙ z, roomy-two (length (a .answer .now)) 3 (length (a .samples .now)) 128 (two .short-two .ensures) (left .if1 .left) .1)
+hear-into-requires c κs = let v = c .before .before .before .before .before .before .before .before .before .before in (λ z. sym (v .voice-refusal .ensures) ∙ z, room (v .before) .1)
 
 same-length : tie.Need-same-length
 same-length c = search needs
