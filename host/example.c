@@ -1,17 +1,19 @@
 /* Two bursts of speech from an origin through two nodes to an endpoint, as an operator would want to
- * see them: what each frame weighs on the way, when it is played and what is left of the voice. The
- * stop packet of the second comes late. The signalling of a trunk that dies and comes back, and a frame of
- * a foreign unit that sets the poll bit. Three frames on a line of bare bits, one of them damaged there. Three
- * that wait at a node until its line is ready. What each level would give back of three others. And a tray of
- * three, one of them damaged, that goes through two nodes. */
+ * see them: what each frame weighs on the way, when it is played, and the words that are heard, of the
+ * width that the nodes have left. The stop packet of the second comes late. The signalling of a trunk that
+ * dies and comes back, and a frame of a foreign unit that sets the poll bit. Three frames on a line of bare
+ * bits, one of them damaged there. Three that wait at a node until its line is ready. What each level would
+ * give back of three others. And a tray of three, one of them damaged, that goes through two nodes. */
 
 #include <stdio.h>
 #include <string.h>
 
 #include "pelgrant.h"
 
-/* The stop packet has a noise of its own, so that it is seen to count. */
-enum { CODING = 21, NOISE = 3, NOISE_AT_STOP = 5, BUILD_OUT = 100, PACKETS = 6, FRAMES = 3, LEVELS = 3 };
+/* Coding type 21 has samples of 5 bits, of which 3 may be dropped. The stop packet has a noise of its own, so that
+ * it is seen to count. */
+enum { CODING = 21, SAMPLE_BITS = 5, NOISE = 3, NOISE_AT_STOP = 5, BUILD_OUT = 100 };
+enum { PACKETS = 6, FRAMES = 3, LEVELS = 3 };
 
 /* Refusals after which it goes on: a packet that is late, what of a line is damaged, a waiting room that is
  * full or empty. */
@@ -22,12 +24,18 @@ typedef struct {
     size_t length;
 } frame;
 
+/* What a decoder is given: 128 words and the width to take them at, which may be another for each packet. */
+typedef struct {
+    uint8_t words[PELGRANT_SAMPLES];
+    unsigned width;
+} sound;
+
 /* What the two ends of a circuit keep: the origin its number, the endpoint its record, the time on the
- * play clock, the samples last played and the frame that came last. */
+ * play clock, what was last played and the frame that came last. */
 typedef struct {
     uint8_t sseq;
     uint64_t record[PELGRANT_RECORD], clock;
-    uint8_t played[PELGRANT_SAMPLES];
+    sound played;
     frame came;
 } circuit;
 
@@ -71,14 +79,6 @@ static uint8_t signalling(frame *made)
     uint8_t number = pelgrant_signal_write(8, 0, 0, 0, 4711, made->octets, sizeof made->octets, &length, 1);
     made->length = (size_t)length;
     return number;
-}
-
-static unsigned sum(const uint8_t samples[PELGRANT_SAMPLES])
-{
-    unsigned total = 0;
-    for (int n = 0; n < PELGRANT_SAMPLES; n++)
-        total += samples[n];
-    return total;
 }
 
 static int refused(const char *where, uint8_t number)
@@ -347,20 +347,29 @@ static int tray_of_frames(void)
 
 static void heading(const char *title)
 {
-    printf("%s\n\nstep   sequence  octets sent  after node 1  after node 2  delay  arrives   due  dropped  reset"
-           "  sum spoken  sum heard  first samples heard\n", title);
+    printf("%s\n\nstep   sequence  octets sent  after node 1  after node 2  delay  arrives   due  reset  dropped  width"
+           "  first samples spoken     first words heard\n", title);
+}
+
+static void show_first(const uint8_t words[PELGRANT_SAMPLES])
+{
+    printf(" ");
+    for (int n = 0; n < 8; n++)
+        printf(" %2d", words[n]);
 }
 
 /* A packet of a burst that begins at this time of the play clock; wait is its wait at the second node. */
 static int packet(circuit *line, uint64_t begins, int place, uint32_t wait)
 {
-    /* The second node is busy in the middle of the burst and drops what it may. */
-    static const uint8_t busy[PACKETS] = {0, 0, 2, 2, 1, 0};
+    /* The first node drops a block of all but the first packet. The second is busy in the middle of the burst and
+     * drops what it may. */
+    static const uint8_t levels[PACKETS] = {0, 1, 1, 1, 1, 1}, busy[PACKETS] = {0, 0, 2, 2, 1, 0};
     static const char *const names[] = {"START", "DATA", "STOP"};
     uint8_t step = place == 0 ? PELGRANT_START : place < PACKETS - 1 ? PELGRANT_DATA : PELGRANT_STOP;
-    uint8_t samples[PELGRANT_SAMPLES], heard[PELGRANT_SAMPLES];
-    uint64_t answer[4];
+    uint8_t samples[PELGRANT_SAMPLES];
+    uint64_t answer[5];
     frame passing = {{0}, 0};
+    sound heard;
     uint32_t made = (uint32_t)(4294966280u + begins + 16 * (uint64_t)place); /* rolls over in the first burst */
 
     speak(place, samples);
@@ -371,7 +380,7 @@ static int packet(circuit *line, uint64_t begins, int place, uint32_t wait)
     passing.length = (size_t)answer[0];
     printf("%-5s  %8d  %11zu", names[step], passing.octets[7] >> 4, passing.length);
 
-    number = node(&passing, 1, made + 2, made + 9, 300);
+    number = node(&passing, levels[place], made + 2, made + 9, 300);
     if (number != 0)
         return refused("node 1", number);
     printf("  %12zu", passing.length);
@@ -383,49 +392,55 @@ static int packet(circuit *line, uint64_t begins, int place, uint32_t wait)
     line->clock = begins + 16 * (uint64_t)place + 9 + wait;
     printf("  %12zu  %5d  %7llu", passing.length, passing.octets[5], (unsigned long long)line->clock);
 
-    number = pelgrant_arrive(line->record, PELGRANT_RECORD, passing.octets, passing.length, line->clock, answer, 4,
-        heard, sizeof heard);
-    if (number == LATE) {
+    number = pelgrant_arrive(line->record, PELGRANT_RECORD, passing.octets, passing.length, line->clock, answer, 5,
+        heard.words, sizeof heard.words);
+    if (number == LATE) { /* zeros are answered, a width of 0 among them: what was last played stays */
         printf("  late\n");
         return 0;
     }
     if (number != 0)
         return refused("the endpoint", number);
-    memcpy(line->played, heard, sizeof heard);
-    printf("  %4llu  %7llu  %5s  %10u  %9u ", (unsigned long long)answer[0], (unsigned long long)answer[3],
-        answer[1] ? "yes" : "no", sum(samples), sum(heard));
-    for (int n = 0; n < 10; n++)
-        printf(" %d", heard[n]);
+    heard.width = (unsigned)answer[4]; /* the sample bits, answer[2], less the blocks dropped, answer[3] */
+    line->played = heard;
+    printf("  %4llu  %5s  %7llu  %5u", (unsigned long long)answer[0], answer[1] ? "yes" : "no",
+        (unsigned long long)answer[3], heard.width);
+    show_first(samples);
+    show_first(heard.words);
     printf("\n");
     return 0;
 }
 
-/* What is played while no packet comes: M_LAST chooses, and the last noise gives the level. */
+/* What is played while no packet comes: M_LAST chooses, and the last noise gives the level. Fill hands the words on
+ * as they are, so that their width is the one kept with them. */
 static int play_without_packet(const circuit *line)
 {
-    uint8_t noise[PELGRANT_SAMPLES], fill[PELGRANT_SAMPLES];
+    sound noise, fill;
     uint64_t end = line->record[PELGRANT_END], filled = 0, idle = 0;
+    uint8_t m_last = (uint8_t)line->record[PELGRANT_M_LAST];
     double level = 0;
-    memset(noise, 16, sizeof noise);
-    uint8_t number = pelgrant_fill(line->played, sizeof line->played, noise, sizeof noise,
-        (uint8_t)line->record[PELGRANT_M_LAST], fill, sizeof fill, &filled, 1);
+    memset(noise.words, 16, sizeof noise.words);
+    noise.width = SAMPLE_BITS;
+    uint8_t number = pelgrant_fill(line->played.words, sizeof line->played.words, noise.words, sizeof noise.words,
+        m_last, fill.words, sizeof fill.words, &filled, 1);
     if (number != 0)
         return refused("the fill", number);
+    fill.width = m_last == 1 ? line->played.width : noise.width;
     number = pelgrant_noise_level((uint8_t)line->record[PELGRANT_LAST_NOISE], &idle, 1, &level, 1);
     if (number != 0)
         return refused("the noise level", number);
     printf("no packet, from %llu ms: ", (unsigned long long)(line->clock > end ? line->clock : end));
-    if (memcmp(fill, noise, sizeof fill) == 0)
-        printf("%llu samples of noise at %.1f dBmc0%s\n", (unsigned long long)filled, level, idle ? " (idle)" : "");
+    if (memcmp(fill.words, noise.words, sizeof fill.words) == 0)
+        printf("%llu words of noise, width %u, at %.1f dBmc0%s\n", (unsigned long long)filled, fill.width, level,
+            idle ? " (idle)" : "");
     else
-        printf("the last %llu samples again\n", (unsigned long long)filled);
+        printf("the last %llu words again, width %u\n", (unsigned long long)filled, fill.width);
     return 0;
 }
 
 int main(void)
 {
     static const uint32_t waits[PACKETS] = {12, 20, 64, 58, 47, 31};
-    circuit line = {0, {0}, 0, {0}, {{0}, 0}};
+    circuit line = {0, {0}, 0, {{0}, 0}, {{0}, 0}};
     uint8_t number = pelgrant_fresh(BUILD_OUT, line.record, PELGRANT_RECORD);
     if (number != 0)
         return refused("the endpoint", number);

@@ -179,7 +179,7 @@ uint8_t pelgrant_forward_tray(const uint8_t *tray, size_t tray_len, uint8_t leve
  * Back: answer[0] the sample bits S, answer[1] the blocks dropped, answer[2] the width that is left; the
  *   first 128 of samples, words of that width.
  * Refusals: 16 (answer below 3 or samples below 128), 1, 2, 3, 24, 4, 5, 19, 6, 7, 8, 9.
- * Untouched: frame. */
+ * Untouched: frame; samples past the first 128. */
 uint8_t pelgrant_read(const uint8_t *frame, size_t frame_len, uint64_t *answer, size_t answer_len,
     uint8_t *samples, size_t samples_len);
 
@@ -198,8 +198,9 @@ uint8_t pelgrant_fresh(uint8_t buildout, uint64_t *record, size_t record_len);
  *   words of that width; the record moved on.
  * Refusals: 16 (answer below 5 or samples below 128), 14 where record_len is not 6, 14, 18,
  *   1, 2, 3, 24, 4, 5, 19, 6, 7, 8, 9, 17, 20.
- * Untouched: frame; where refused, the record, save that 17 and 20 (late, due too far ahead) store the
- *   frame's more bit in M_LAST and its noise in the last noise: a late stop packet counts as a stop. */
+ * Untouched: frame; samples past the first 128; where refused, the record, save that 17 and 20 (late, due
+ *   too far ahead) store the frame's more bit in M_LAST and its noise in the last noise: a late stop packet
+ *   counts as a stop. */
 uint8_t pelgrant_arrive(uint64_t *record, size_t record_len, const uint8_t *frame, size_t frame_len, uint64_t clock,
     uint64_t *answer, size_t answer_len, uint8_t *samples, size_t samples_len);
 
@@ -207,7 +208,7 @@ uint8_t pelgrant_arrive(uint64_t *record, size_t record_len, const uint8_t *fram
  * Lent and back as for pelgrant_arrive, but the record is only read, and the first 6 of after are the
  *   record after the call: where refused, the record as it came, save for what 17 and 20 store.
  * Refusals: as for pelgrant_arrive, the first 16 also where after is below 6.
- * Untouched: record and frame; after where record_len is not 6. */
+ * Untouched: record and frame; samples past the first 128; after where record_len is not 6. */
 uint8_t pelgrant_arrive_value(const uint64_t *record, size_t record_len, const uint8_t *frame, size_t frame_len,
     uint64_t clock, uint64_t *after, size_t after_len, uint64_t *answer, size_t answer_len,
     uint8_t *samples, size_t samples_len);
@@ -221,7 +222,7 @@ uint8_t pelgrant_signal_read(uint8_t buildout, const uint8_t *frame, size_t fram
     uint64_t *answer, size_t answer_len);
 
 /* What to play where no packet came.
- * Lent: last, the samples last played, and noise, the host's, both at least 128; m_last of the record,
+ * Lent: last, the words last played, and noise, the host's, both at least 128; m_last of the record,
  *   the more bit of the last frame that was scheduled or refused with 17 or 20.
  * Back: the first 128 of out, copied from last if m_last is 1, else from noise, and answer[0] 128; or
  *   answer[0] 0 where last or noise is shorter than 128. The words are handed on as they are: their width is

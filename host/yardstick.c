@@ -82,11 +82,11 @@ static __m128i turned(__m128i squares)
     return squares;
 }
 
-/* Reads 128 samples back; blocks that are missing read as zeros. The planes are first laced octet by
- * octet, so that the eight octets of a square stand together, and the squares are then turned. */
-void yardstick_unpack(const uint8_t *voice_field, size_t blocks, uint8_t sample_bits, uint8_t *samples)
+/* Reads 128 words of as many bits as there are blocks. The planes are first laced octet by octet, so that
+ * the eight octets of a square stand together, and the squares are then turned. */
+void yardstick_unpack(const uint8_t *voice_field, size_t blocks, uint8_t *words)
 {
-    const __m128i from_top = _mm_cvtsi32_si128(8 - sample_bits);
+    const __m128i from_top = _mm_cvtsi32_si128(8 - (int)blocks);
     __m128i plane[PLANES], twos[PLANES], fours[PLANES]; /* plane 7 is the highest bit */
     for (size_t block = 0; block < PLANES; block++)
         plane[7 - block] = block < blocks ? _mm_loadu_si128((const __m128i *)(voice_field + BLOCK * block))
@@ -102,7 +102,7 @@ void yardstick_unpack(const uint8_t *voice_field, size_t blocks, uint8_t sample_
     for (int n = 0; n < 4; n++) {
         __m128i low = turned(_mm_unpacklo_epi32(fours[2 * n], fours[2 * n + 1]));
         __m128i high = turned(_mm_unpackhi_epi32(fours[2 * n], fours[2 * n + 1]));
-        _mm_storeu_si128((__m128i *)(samples + 32 * n), _mm_srl_epi16(low, from_top));
-        _mm_storeu_si128((__m128i *)(samples + 32 * n + 16), _mm_srl_epi16(high, from_top));
+        _mm_storeu_si128((__m128i *)(words + 32 * n), _mm_srl_epi16(low, from_top));
+        _mm_storeu_si128((__m128i *)(words + 32 * n + 16), _mm_srl_epi16(high, from_top));
     }
 }

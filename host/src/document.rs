@@ -1,4 +1,4 @@
-//! Document 01, amended by requests A2 and A5 of document 02, in plain Rust. It is written from the
+//! Document 01, amended by requests A2, A5 and A9 of document 02, in plain Rust. It is written from the
 //! documents alone, as the yardstick of the proved library: what the library answers is right if this
 //! answers the same, and its speed is measured against this.
 
@@ -163,18 +163,18 @@ fn pack(samples: &[u8], sample_bits: u8, voice_field: &mut [u8]) {
     }
 }
 
-/// The bits of blocks that the voice field no longer has stay zero.
-fn unpack(voice_field: &[u8], sample_bits: u8) -> [u8; SAMPLES] {
+/// Words of as many bits as the voice field has blocks: the last block, whichever that is, holds the lowest. Each is
+/// thus the sample divided by 2 for every block dropped (A9).
+fn unpack(voice_field: &[u8]) -> [u8; SAMPLES] {
     let mut planes: Planes = [[0; BLOCK]; 8];
-    let from_highest = planes[..sample_bits.into()].iter_mut().rev();
-    for (block, plane) in voice_field.chunks_exact(BLOCK).zip(from_highest) {
+    for (plane, block) in planes.iter_mut().zip(voice_field.rchunks_exact(BLOCK)) {
         plane.copy_from_slice(block);
     }
-    let mut samples = [0; SAMPLES];
-    for (column, eight) in samples.chunks_exact_mut(8).enumerate() {
+    let mut words = [0; SAMPLES];
+    for (column, eight) in words.chunks_exact_mut(8).enumerate() {
         eight.copy_from_slice(&transpose(std::array::from_fn(|bit| planes[bit][column])));
     }
-    samples
+    words
 }
 
 // ---- Reading a frame ----
@@ -263,17 +263,19 @@ fn node_form(frame: &[u8]) -> Result<(Kind, u8), Refusal> {
     Ok((kind, left))
 }
 
+/// What is heard of a frame: words of the width that is left of the sample bits.
 #[derive(Clone, Debug, PartialEq, Eq)]
 pub struct Voice {
     pub sample_bits: u8,
     pub dropped: u8,
-    pub samples: [u8; SAMPLES],
+    pub width: u8,
+    pub words: [u8; SAMPLES],
 }
 
 fn voice_of(frame: &[u8], blocks: Blocks) -> Voice {
-    let Blocks { coding, dropped, .. } = blocks;
-    let voice_field = &frame[HEADER..frame.len() - CHECK];
-    Voice { sample_bits: coding.sample_bits, dropped, samples: unpack(voice_field, coding.sample_bits) }
+    let Blocks { coding: Coding { sample_bits, .. }, dropped, .. } = blocks;
+    let words = unpack(&frame[HEADER..frame.len() - CHECK]);
+    Voice { sample_bits, dropped, width: sample_bits - dropped, words }
 }
 
 pub fn read(frame: &[u8]) -> Result<Voice, Refusal> {
@@ -579,7 +581,27 @@ mod tests {
                     assert_eq!(bit, samples[n - 1] >> (s - b - 1) & 1, "type {number}, block {b}, sample {n}");
                 }
             }
-            assert_eq!(read(&frame).unwrap().samples, samples[..]);
+            assert_eq!(read(&frame).unwrap().words, samples[..]);
+        }
+    }
+
+    #[test]
+    fn words_are_the_samples_divided_by_2_for_each_block_dropped() {
+        for number in 0..32 {
+            let Some(Coding { sample_bits, droppable, .. }) = Coding::of(number) else { continue };
+            let samples: [u8; 128] = std::array::from_fn(|n| (n * 167 + 29) as u8 >> (8 - sample_bits));
+            let whole = start(number, &samples, 0, AT_ONCE).unwrap();
+            for level in 0..=LEVEL_MAX {
+                let dropped = level.min(droppable);
+                let words = samples.map(|sample| sample / (1 << dropped));
+                let heard = Voice { sample_bits, dropped, width: sample_bits - dropped, words };
+                let (at_origin, at_node) = (start(number, &samples, level, AT_ONCE), pass(&whole, level, AT_ONCE));
+                for frame in [at_origin.unwrap(), at_node.unwrap()] {
+                    assert_eq!(read(&frame).unwrap(), heard, "type {number}, level {level}");
+                    let scheduled = arrive(&mut Endpoint::fresh(100), &frame, 0).unwrap();
+                    assert_eq!(scheduled.voice, heard, "type {number}, level {level}");
+                }
+            }
         }
     }
 
@@ -592,7 +614,7 @@ mod tests {
         assert_eq!((one[4], one.len()), (50, 74));
         let three = pass(&frame, 3, AT_ONCE).unwrap();
         assert_eq!((three[4], three.len()), (48, 42));
-        assert_eq!(read(&three).unwrap(), Voice { sample_bits: 5, dropped: 3, samples: [24; 128] });
+        assert_eq!(read(&three).unwrap(), Voice { sample_bits: 5, dropped: 3, width: 2, words: [3; 128] });
 
         let mut few = [0; 128];
         few[..3].copy_from_slice(&[2, 1, 3]);

@@ -6,7 +6,7 @@
 //! before all else, in that order. Past 16 the answer is always written, zeros where the call is
 //! refused, but for the place that a stretch of a line which is no frame ends at.
 
-use crate::document::{self, Departure, Endpoint, Kind, Packet, Refusal, Scheduled, Step, SAMPLES};
+use crate::document::{self, Departure, Endpoint, Kind, Packet, Refusal, Scheduled, Step, Voice, SAMPLES};
 use crate::line::{self, Frame, Unread};
 use crate::queue::{self, QUEUE};
 use crate::tray::{self, Passed};
@@ -30,14 +30,14 @@ fn answered<const N: usize>(result: Result<[u64; N], Refusal>, answer: &mut [u64
     number
 }
 
-fn answered_with_samples<const N: usize>(
-    result: Result<([u64; N], [u8; SAMPLES]), Refusal>, answer: &mut [u64], samples: &mut [u8],
+fn answered_with_words<const N: usize>(
+    result: Result<([u64; N], &[u8; SAMPLES]), &Refusal>, answer: &mut [u64], samples: &mut [u8],
 ) -> u8 {
-    match &result {
-        Ok((_, heard)) => samples[..SAMPLES].copy_from_slice(heard),
+    match result {
+        Ok((_, words)) => samples[..SAMPLES].copy_from_slice(words),
         Err(_) => samples[..SAMPLES].fill(0),
     }
-    answered(result.map(|(values, _)| values), answer)
+    answered(result.map(|(values, _)| values).map_err(|refusal| *refusal), answer)
 }
 
 fn step_of(step: u8) -> Result<Step, Refusal> {
@@ -78,9 +78,15 @@ fn arrived(record: &mut [u64], frame: &[u8], clock: u64) -> Result<Scheduled, Re
     scheduled
 }
 
-fn heard(scheduled: Scheduled) -> ([u64; 4], [u8; SAMPLES]) {
-    let Scheduled { due, reset, voice } = scheduled;
-    ([due, reset.into(), voice.sample_bits.into(), voice.dropped.into()], voice.samples)
+fn heard(voice: &Voice) -> ([u64; 3], &[u8; SAMPLES]) {
+    let &Voice { sample_bits, dropped, width, ref words } = voice;
+    ([sample_bits, dropped, width].map(u64::from), words)
+}
+
+fn scheduled(scheduled: &Scheduled) -> ([u64; 5], &[u8; SAMPLES]) {
+    let &Scheduled { due, reset, ref voice } = scheduled;
+    let ([sample_bits, dropped, width], words) = heard(voice);
+    ([due, reset.into(), sample_bits, dropped, width], words)
 }
 
 pub fn watch_of(record: &[u64]) -> Result<Watch, Refusal> {
@@ -201,12 +207,10 @@ impl Calls for Document {
     }
 
     fn read(&self, frame: &[u8], answer: &mut [u64], samples: &mut [u8]) -> u8 {
-        if answer.len() < 2 || samples.len() < SAMPLES {
+        if answer.len() < 3 || samples.len() < SAMPLES {
             return SHORT;
         }
-        let voice = document::read(frame);
-        let heard = voice.map(|voice| ([voice.sample_bits, voice.dropped].map(u64::from), voice.samples));
-        answered_with_samples(heard, answer, samples)
+        answered_with_words(document::read(frame).as_ref().map(heard), answer, samples)
     }
 
     fn fresh(&self, build_out: u8, record: &mut [u64]) -> u8 {
@@ -218,26 +222,26 @@ impl Calls for Document {
     }
 
     fn arrive(&self, record: &mut [u64], frame: &[u8], clock: u64, answer: &mut [u64], samples: &mut [u8]) -> u8 {
-        if answer.len() < 4 || samples.len() < SAMPLES {
+        if answer.len() < 5 || samples.len() < SAMPLES {
             return SHORT;
         }
-        answered_with_samples(arrived(record, frame, clock).map(heard), answer, samples)
+        answered_with_words(arrived(record, frame, clock).as_ref().map(scheduled), answer, samples)
     }
 
     fn arrive_value(
         &self, record: &[u64], frame: &[u8], clock: u64, after: &mut [u64], answer: &mut [u64], samples: &mut [u8],
     ) -> u8 {
-        if answer.len() < 4 || samples.len() < SAMPLES || after.len() < RECORD {
+        if answer.len() < 5 || samples.len() < SAMPLES || after.len() < RECORD {
             return SHORT;
         }
-        let scheduled = if record.len() == RECORD {
+        let arrival = if record.len() == RECORD {
             let after = &mut after[..RECORD];
             after.copy_from_slice(record);
             arrived(after, frame, clock)
         } else {
             Err(Refusal::Record)
         };
-        answered_with_samples(scheduled.map(heard), answer, samples)
+        answered_with_words(arrival.as_ref().map(scheduled), answer, samples)
     }
 
     fn signal_read(&self, build_out: u8, frame: &[u8], answer: &mut [u64]) -> u8 {
@@ -376,12 +380,79 @@ mod tests {
 
     /// The number and the record after a frame came, which both calls agree on.
     fn arrive(record: &[u64], frame: &[u8], clock: u64) -> (u8, Vec<u64>) {
-        let (mut lent, mut answer, mut samples) = (record.to_vec(), [UNUSED; 4], [0; SAMPLES]);
+        let (mut lent, mut answer, mut samples) = (record.to_vec(), [UNUSED; 5], [0; SAMPLES]);
         let number = Document.arrive(&mut lent, frame, clock, &mut answer, &mut samples);
         let mut after = [UNUSED; RECORD];
         assert_eq!(Document.arrive_value(record, frame, clock, &mut after, &mut answer, &mut samples), number);
         assert_eq!(&after[..], if record.len() == RECORD { &lent[..] } else { &[UNUSED; RECORD] });
         (number, lent)
+    }
+
+    /// The first packet of a burst in type 21, all samples 29, from which so many blocks were dropped.
+    fn start(level: u8) -> Vec<u8> {
+        let (mut out, departure) = (vec![0; 90], Departure { from: 0, to: 24, address: 128 });
+        let packet = Packet { step: Step::Start, coding: 21, noise: 3, samples: &[29; SAMPLES] };
+        let length = document::send(&mut 0, &packet, level, &departure, &mut out).unwrap();
+        out[..length].to_vec()
+    }
+
+    /// What comes of the three calls that hear a frame: the number, the answer and the samples. The arrivals are on a
+    /// record of that build-out at clock 1000; each answer slice is longer than is needed, or shorter, by as much.
+    fn hear(frame: &[u8], build_out: u64, longer: isize) -> [(u8, Vec<u64>, [u8; 130]); 3] {
+        let record = [build_out, 0, 0, 0, 0, 0];
+        let heard = |needed: isize, call: &dyn Fn(&mut [u64], &mut [u8]) -> u8| {
+            let (mut answer, mut samples) = (vec![UNUSED; (needed + longer) as usize], [0xFF; 130]);
+            (call(&mut answer, &mut samples), answer, samples)
+        };
+        [
+            heard(3, &|answer, samples| Document.read(frame, answer, samples)),
+            heard(5, &|answer, samples| Document.arrive(&mut record.clone(), frame, 1000, answer, samples)),
+            heard(5, &|answer, samples| Document.arrive_value(&record, frame, 1000, &mut [0; RECORD], answer, samples)),
+        ]
+    }
+
+    /// 128 words of that value, in a slice that is two octets longer.
+    fn words(value: u8) -> [u8; 130] {
+        std::array::from_fn(|n| if n < SAMPLES { value } else { 0xFF })
+    }
+
+    #[test]
+    fn words_in_numbers() {
+        for (dropped, width, word) in [(0, 5, 29), (1, 4, 14), (2, 3, 7), (3, 2, 3)] {
+            let [read, arrive, value] = hear(&start(dropped), 100, 1);
+            let dropped = dropped.into();
+            assert_eq!(read, (0, vec![5, dropped, width, UNUSED], words(word)));
+            assert_eq!(arrive, (0, vec![1076, 1, 5, dropped, width, UNUSED], words(word)));
+            assert_eq!(value, arrive);
+        }
+        // Just as many slots as are needed will do.
+        assert_eq!(hear(&start(1), 100, 0).map(|(number, ..)| number), [0; 3]);
+    }
+
+    #[test]
+    fn no_words_in_numbers() {
+        let zeros = |number, slots| (number, [vec![0; slots], vec![UNUSED; 2]].concat(), words(0));
+        let [read, arrive, value] = hear(&start(1)[..9], 100, 2);
+        assert_eq!((read, &arrive, value), (zeros(1, 3), &zeros(1, 5), arrive.clone()));
+        // Late: the frame can be read.
+        let [read, arrive, value] = hear(&start(1), 23, 2);
+        assert_eq!((read.0, &arrive, value), (0, &zeros(17, 5), arrive.clone()));
+        // As long as they were before there was a width, and shorter.
+        for fewer in [1, 2, 3] {
+            let untouched = |slots: usize| (16, vec![UNUSED; slots - fewer], [0xFF; 130]);
+            assert_eq!(hear(&start(1), 100, -(fewer as isize)), [untouched(3), untouched(5), untouched(5)]);
+        }
+    }
+
+    #[test]
+    fn fill_hands_words_on_as_they_are() {
+        let [(_, _, last), ..] = hear(&start(3), 100, 0);
+        let noise: [u8; SAMPLES] = std::array::from_fn(|n| n as u8);
+        for (m_last, filled) in [(1, &last[..SAMPLES]), (0, &noise[..])] {
+            let (mut out, mut answer) = ([0xFF; SAMPLES], [UNUSED; 2]);
+            assert_eq!(Document.fill(&last, &noise, m_last, &mut out, &mut answer), 0);
+            assert_eq!((&out[..], answer), (filled, [128, UNUSED]));
+        }
     }
 
     #[test]

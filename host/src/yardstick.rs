@@ -12,7 +12,7 @@ mod c {
         pub fn yardstick_check_by_octet(octets: *const u8, length: usize) -> u16;
         pub fn yardstick_check_by_four(octets: *const u8, length: usize) -> u16;
         pub fn yardstick_pack(samples: *const u8, sample_bits: u8, voice_field: *mut u8, blocks: usize);
-        pub fn yardstick_unpack(voice_field: *const u8, blocks: usize, sample_bits: u8, samples: *mut u8);
+        pub fn yardstick_unpack(voice_field: *const u8, blocks: usize, words: *mut u8);
     }
 }
 
@@ -43,10 +43,8 @@ impl Yardstick {
         unsafe { c::yardstick_pack(samples.as_ptr(), sample_bits, voice_field.as_mut_ptr(), voice_field.len() / BLOCK) }
     }
 
-    pub fn unpack(&self, voice_field: &[u8], sample_bits: u8, samples: &mut [u8; SAMPLES]) {
-        unsafe {
-            c::yardstick_unpack(voice_field.as_ptr(), voice_field.len() / BLOCK, sample_bits, samples.as_mut_ptr())
-        }
+    pub fn unpack(&self, voice_field: &[u8], words: &mut [u8; SAMPLES]) {
+        unsafe { c::yardstick_unpack(voice_field.as_ptr(), voice_field.len() / BLOCK, words.as_mut_ptr()) }
     }
 
     /// Checks of every length, and voice in every coding at every level.
@@ -74,8 +72,8 @@ impl Yardstick {
                 self.pack(&samples, coding.sample_bits, &mut packed);
                 assert_eq!(packed, voice_field, "type {number}, level {level}");
                 let mut heard = [0xFF; SAMPLES];
-                self.unpack(voice_field, coding.sample_bits, &mut heard);
-                assert_eq!(heard, document::read(&frame).unwrap().samples, "type {number}, level {level}");
+                self.unpack(voice_field, &mut heard);
+                assert_eq!(heard, document::read(&frame).unwrap().words, "type {number}, level {level}");
             }
         }
     }

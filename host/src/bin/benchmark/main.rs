@@ -60,9 +60,14 @@ const COMMAND_RESPONSE: u8 = 2;
 const POLL: u8 = 16;
 
 fn voice(coding: u8) -> Vec<u8> {
+    voice_at(coding, 0)
+}
+
+/// The same made at a level.
+fn voice_at(coding: u8, level: u8) -> Vec<u8> {
     let (mut out, mut answer) = (vec![0; 138], [0]);
     let Origin { samples, .. } = Origin::data(coding);
-    let number = Document.send(&mut 0, 0, coding, 3, &samples, 0, 0, 7, 128, &mut out, &mut answer);
+    let number = Document.send(&mut 0, 0, coding, 3, &samples, level, 0, 7, 128, &mut out, &mut answer);
     assert_eq!(number, 0);
     out.truncate(answer[0] as usize);
     out
@@ -154,18 +159,26 @@ impl Done {
         let (yardstick, origin, frame) = (self.yardstick, Origin::data(coding), voice(coding));
         let check = || Some(bare_check(yardstick, &frame[..8]));
         let two_checks = || Some(bare_forward(yardstick, &frame));
-        let reading = || Some(bare_read(yardstick, &frame));
         self.row("send", name, both!(send, 0, &origin), Some(bare_send(yardstick, &origin)));
         self.row("forward", name, both!(forward, 0, &frame, HOP, frame.len()), two_checks());
         if coding == TYPE_21 {
             let hop = Hop { level: 3, ..HOP };
             self.row("forward", "type 21, level 3", both!(forward, 0, &frame, hop, frame.len()), two_checks());
         }
-        self.row("read", name, both!(read, 0, &frame), reading());
-        self.row("arrive", name, both!(arrive, 0, RECORD, &frame, 0, 16), reading());
-        self.row("arrive_value", name, both!(arrive_value, 0, RECORD, &frame), reading());
+        self.heard_rows(name, &frame);
+        if coding == TYPE_21 {
+            self.heard_rows("type 21, 3 dropped", &voice_at(TYPE_21, 3));
+        }
         self.row("link", name, both!(link, 0, &frame), check());
         self.row("taken", name, both!(taken, 0, &frame), check());
+    }
+
+    fn heard_rows(&mut self, name: &str, frame: &[u8]) {
+        let yardstick = self.yardstick;
+        let reading = || Some(bare_read(yardstick, frame));
+        self.row("read", name, both!(read, 0, frame), reading());
+        self.row("arrive", name, both!(arrive, 0, RECORD, frame, 0, 16), reading());
+        self.row("arrive_value", name, both!(arrive_value, 0, RECORD, frame), reading());
     }
 
     fn signalling_rows(&mut self) {
@@ -628,7 +641,7 @@ fn main() {
         "The column C is a limit to look at, not a rival: what the bare work of the call costs in C written by \
          hand with SSE2, where nothing is refused, no head is written and no record is kept. For send it is \
          the packing of the samples and the check of the head's 8 octets; for read and the two arrivals that \
-         check and the reading of the samples; for forward two checks, that of the frame which came and that of \
+         check and the reading of the words; for forward two checks, that of the frame which came and that of \
          the one which leaves, without the copy; for the others the one check. The checks are made four octets \
          at a step with four tables.\n"
     );

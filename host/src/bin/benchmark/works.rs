@@ -67,7 +67,7 @@ pub fn forward<C: Calls + 'static>(calls: C, number: u8, frame: &[u8], hop: Hop,
 }
 
 pub fn read<C: Calls + 'static>(calls: C, number: u8, frame: &[u8]) -> Work {
-    repeated(number, (frame.to_vec(), vec![0; 2], vec![0; 128]), move |(frame, answer, samples)| {
+    repeated(number, (frame.to_vec(), vec![0; 3], vec![0; 128]), move |(frame, answer, samples)| {
         calls.read(frame, answer, samples)
     })
 }
@@ -78,7 +78,7 @@ pub fn fresh<C: Calls + 'static>(calls: C, number: u8) -> Work {
 
 /// The first frame of a burst, every 16 ms, so that each is scheduled; a clock that stands still where refused.
 pub fn arrive<C: Calls + 'static>(calls: C, number: u8, record: [u64; 6], frame: &[u8], clock: u64, tick: u64) -> Work {
-    let lent = (record.to_vec(), frame.to_vec(), clock, vec![0; 4], vec![0; 128]);
+    let lent = (record.to_vec(), frame.to_vec(), clock, vec![0; 5], vec![0; 128]);
     repeated(number, lent, move |(record, frame, clock, answer, samples)| {
         *clock += tick;
         calls.arrive(record, frame, *clock, answer, samples)
@@ -87,7 +87,7 @@ pub fn arrive<C: Calls + 'static>(calls: C, number: u8, record: [u64; 6], frame:
 
 /// The same, each record the one after the call before.
 pub fn arrive_value<C: Calls + 'static>(calls: C, number: u8, record: [u64; 6], frame: &[u8]) -> Work {
-    let lent = (record.to_vec(), frame.to_vec(), 0, vec![0; 6], vec![0; 4], vec![0; 128]);
+    let lent = (record.to_vec(), frame.to_vec(), 0, vec![0; 6], vec![0; 5], vec![0; 128]);
     repeated(number, lent, move |(record, frame, clock, after, answer, samples)| {
         *clock += 16;
         let number = calls.arrive_value(record, frame, *clock, after, answer, samples);
@@ -370,10 +370,9 @@ pub fn bare_send(yardstick: Yardstick, origin: &Origin) -> Work {
 
 pub fn bare_read(yardstick: Yardstick, frame: &[u8]) -> Work {
     let (head, voice_field) = frame[..frame.len() - 2].split_at(8);
-    let lent = (head.to_vec(), voice_field.to_vec(), sample_bits(head[6] & 31), 0, [0; SAMPLES]);
-    repeated(0, lent, move |(head, voice_field, bits, check, samples)| {
+    repeated(0, (head.to_vec(), voice_field.to_vec(), 0, [0; SAMPLES]), move |(head, voice_field, check, words)| {
         *check = yardstick.check_by_four(head);
-        yardstick.unpack(voice_field, *bits, samples);
+        yardstick.unpack(voice_field, words);
         0
     })
 }

@@ -111,7 +111,7 @@ impl Lent {
             frame: octets(random, frame),
             samples: buffer(random, 128),
             out: buffer(random, 490),
-            answer: slots(random, 4),
+            answer: slots(random, 5),
             ..Lent::default()
         }
     }

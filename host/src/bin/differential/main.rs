@@ -1,5 +1,6 @@
 //! Calls the proved library and the independent implementation with the same inputs and compares
-//! all that comes back: the number, the answers, and every octet lent and around it.
+//! all that comes back: the number, the answers, and every octet lent and around it. What is heard of a voice frame
+//! is held to the text besides, bit by bit.
 //!
 //! `differential [INPUTS [SEED]]`: INPUTS for each call, more for the events of a watch, fewer for the
 //! calls of a line and of a waiting room and for trays, a tenth as many chains, fewer again for each bit that a
@@ -9,6 +10,7 @@
 mod arrivals;
 mod cases;
 mod head_bits;
+mod hearing;
 mod inputs;
 mod lent;
 mod lines;
@@ -20,6 +22,7 @@ mod trays;
 use arrivals::Arrivals;
 use cases::Cases;
 use head_bits::{HeadBits, Ignored, SetBits};
+use hearing::{Heard, Hearing, Spoken};
 use inputs::{Draft, Faults, FLAT_13, FLAT_14, FLAT_16, FLAT_21};
 use lent::Lent;
 use lines::Reading;
@@ -60,6 +63,7 @@ struct Run {
     carried: [u64; 6],
     arrivals: Arrivals,
     head_bits: HeadBits,
+    hearing: Hearing,
     /// The watch that the last event left.
     watch: [u64; 9],
     cases: Cases,
@@ -81,7 +85,8 @@ fn flat(faults: Faults) -> Option<usize> {
 }
 
 impl Run {
-    /// Gives the number and what was lent as the independent implementation leaves it.
+    /// Gives the number and what was lent as the independent implementation leaves it. Where a frame is heard, that has
+    /// to be what the text has too.
     fn compare(
         &mut self, call: Call, flat: Option<usize>, numbers: &[u64], lent: Lent,
         run: impl Fn(&dyn Calls, &mut Lent) -> u8,
@@ -94,10 +99,18 @@ impl Run {
             self.head_bits.wrote(call, found.out.part());
         }
         let difference = right.difference(&found);
-        if right_number != found_number || difference.is_some() {
+        let same = right_number == found_number && difference.is_none();
+        let outcome = flat.unwrap_or(right_number.into());
+        let holds = hearing::holds(call, outcome, &lent, &right);
+        if same && holds {
+            self.hearing.met(call, outcome, &lent);
+        } else {
             self.differs(|| {
                 println!("different: {}, numbers {numbers:?}", call.name());
                 println!("  right is {right_number}, the card answers {found_number}");
+                if !holds {
+                    println!("  what is right is not what the text has");
+                }
                 if let Some(name) = difference {
                     println!("  first of what is lent to differ: {name}");
                 }
@@ -280,7 +293,7 @@ impl Run {
         let faults = Faults::among(&mut self.random, &[FLAT_16, 0, 0, 0]);
         let frame = inputs::frame(&mut self.random);
         let frame = lent::octets(&mut self.random, &frame);
-        let (answer, samples) = self.answer_and_samples(2, faults);
+        let (answer, samples) = self.answer_and_samples(hearing::slots(Call::Read), faults);
         let lent = Lent { frame, answer, samples, ..Lent::default() };
         self.compare(Call::Read, flat(faults), &[], lent, |calls, lent| {
             calls.read(lent.frame.part(), lent.answer.part_mut(), lent.samples.part_mut())
@@ -337,7 +350,7 @@ impl Run {
     fn arrive(&mut self) {
         let faults = Faults::among(&mut self.random, Call::Arrive.order());
         let (record, clock, frame) = self.arrival(faults);
-        let (answer, samples) = self.answer_and_samples(4, faults);
+        let (answer, samples) = self.answer_and_samples(hearing::slots(Call::Arrive), faults);
         let random = &mut self.random;
         let (lent_record, lent_frame) = (lent::numbers(random, &record), lent::octets(random, &frame));
         let lent = Lent { record: lent_record, frame: lent_frame, answer, samples, ..Lent::default() };
@@ -363,7 +376,7 @@ impl Run {
         let after_length = inputs::room(random, 6, short_after);
         let after = lent::slots(random, after_length);
         let (lent_record, lent_frame) = (lent::numbers(random, &record), lent::octets(random, &frame));
-        let (answer, samples) = self.answer_and_samples(4, others);
+        let (answer, samples) = self.answer_and_samples(hearing::slots(Call::ArriveValue), others);
         let lent = Lent { record: lent_record, after, frame: lent_frame, answer, samples, ..Lent::default() };
         let (number, after) = self.compare(Call::ArriveValue, flat(faults), &[clock], lent, |calls, lent| {
             calls.arrive_value(
@@ -422,9 +435,14 @@ impl Run {
         let (last, noise) = (lent::buffer(random, last_length), lent::buffer(random, noise_length));
         let (answer, out) = self.answer_and_samples(1, faults);
         let lent = Lent { frame: last, noise, out, answer, ..Lent::default() };
-        self.compare(Call::Fill, flat(faults), &[m_last.into()], lent, |calls, lent| {
+        self.fill_from(flat(faults), m_last, lent);
+    }
+
+    /// What was last played stands in the place of a frame.
+    fn fill_from(&mut self, flat: Option<usize>, m_last: u8, lent: Lent) -> (u8, Lent) {
+        self.compare(Call::Fill, flat, &[m_last.into()], lent, |calls, lent| {
             calls.fill(lent.frame.part(), lent.noise.part(), m_last, lent.out.part_mut(), lent.answer.part_mut())
-        });
+        })
     }
 
     fn noise_level(&mut self) {
@@ -844,48 +862,63 @@ impl Run {
         }
     }
 
-    /// Demand 3 through the compiled code: a chain of nodes sends what one node sends, and the
-    /// samples read at its end are the originals without their lowest bits.
+    /// Demand 3 through the compiled code: a chain of nodes sends what one node sends, and what is read at its end is
+    /// the originals divided by 2 for each level, as far as bits may be dropped. Fill hands that on as it is.
     fn chain(&mut self) {
         let random = &mut self.random;
-        let number = inputs::coding(random, false);
-        let coding = Coding::of(number).unwrap();
-        let samples = inputs::samples(random, coding.sample_bits, false);
+        let spoken = Spoken::draw(random);
         let (mut sseq, step) = random.pick(&[(0, 0), (1, 1), (15, 1), (7, 2)]);
         // Half of the chains are gentle, so that neither the waits nor the levels run to their end at once.
         let gentle = random.one_in(2);
         let origin = Hop::draw(random, gentle);
-        let nodes: Vec<Hop> = (0..=random.below(8)).map(|_| Hop::draw(random, gentle)).collect();
-        let levels: u8 = nodes.iter().map(|node| node.level).sum();
+        let nodes: Vec<Hop> = (0..random.size_below(hearing::NODES + 1)).map(|_| Hop::draw(random, gentle)).collect();
+        let node_levels: u8 = nodes.iter().map(|node| node.level).sum();
         let waits: u64 = nodes.iter().map(|node| u64::from(node.to.wrapping_sub(node.from))).sum();
-        let address = nodes[nodes.len() - 1].address;
-        let one_node = Hop { level: levels.min(3), from: 0, to: waits.min(200) as u32, address };
+        let one_node = nodes.last().map(|&Hop { address, .. }| {
+            let (level, to) = (node_levels.min(3), waits.min(200) as u32);
+            Hop { level, from: 0, to, address }
+        });
 
         let Hop { level, from, to, address } = origin;
+        let (before, levels) = (self.different, level + node_levels);
         let first = written(|out, length| {
-            Card.send(&mut sseq, step, number, 9, &samples, level, from, to, address, out, length)
+            Card.send(&mut sseq, step, spoken.coding, 9, &spoken.samples, level, from, to, address, out, length)
         })
         .unwrap_or_default();
         let chained = nodes.iter().try_fold(first.clone(), |frame, node| node.forward(&frame));
-        let single = one_node.forward(&first);
+        let single = one_node.map_or(Some(first.clone()), |node| node.forward(&first));
         self.head_bits.wrote(Call::Send, &first);
         single.iter().chain(&chained).for_each(|sent| self.head_bits.wrote(Call::Forward, sent));
 
-        let dropped = coding.droppable.min(origin.level + levels);
-        let kept: Vec<u8> = samples.iter().map(|sample| sample >> dropped << dropped).collect();
-        let (mut answer, mut heard) = ([0; 2], [0; 128]);
-        let read = chained.as_ref().map(|frame| Card.read(frame, &mut answer, &mut heard));
-        let right = chained == single
-            && read == Some(0)
-            && answer == [coding.sample_bits.into(), dropped.into()]
-            && heard[..] == kept;
+        let right = spoken.heard(levels);
+        let lent = Lent::to_read(&mut self.random, chained.as_deref().unwrap_or(&[]));
+        let read = |calls: &dyn Calls, lent: &mut Lent| origin.read_by(calls, Call::Read, lent);
+        let (number, after) = self.compare(Call::Read, None, &[], lent, read);
+        let heard = Heard::answered(Call::Read, &after);
+        let handed_on = self.handed_on(&after.samples);
         self.chains += 1;
-        if !right {
+        if chained != single || number != 0 || heard != right || !handed_on {
             self.differs(|| {
-                println!("different: a chain, coding {number}, origin {origin:?}, nodes {nodes:?}");
-                println!("  chain {chained:?}\n  one node {single:?}\n  read {read:?} {answer:?} {heard:?}");
+                println!("different: a chain, coding {}, origin {origin:?}, nodes {nodes:?}", spoken.coding);
+                println!("  chain {chained:?}\n  one node {single:?}");
+                println!("  read {number} {heard:?}\n  right {right:?}\n  handed on: {handed_on}");
             });
         }
+        if self.different == before {
+            self.hearing.met_chain(&spoken, nodes.len(), level, levels);
+        }
+    }
+
+    /// Whether fill makes of words what they are, both of those last played and of the host's noise.
+    fn handed_on(&mut self, words: &lent::Guarded<u8>) -> bool {
+        [1, 0].into_iter().all(|m_last| {
+            let random = &mut self.random;
+            let (words_lent, others) = (words.clone(), lent::buffer(random, 128));
+            let (frame, noise) = if m_last == 1 { (words_lent, others) } else { (others, words_lent) };
+            let (out, answer) = (lent::buffer(random, 128), lent::slots(random, 1));
+            let (_, after) = self.fill_from(None, m_last, Lent { frame, noise, out, answer, ..Lent::default() });
+            after.answer.part() == [128] && after.out.part() == words.part()
+        })
     }
 }
 
@@ -1010,6 +1043,7 @@ fn main() -> ExitCode {
         carried: [100, 0, 0, 0, 0, 0],
         arrivals: Arrivals::new(),
         head_bits: HeadBits::new(),
+        hearing: Hearing::new(),
         watch: [16, 10_000, 25_000, 0, 0, 0, 0, 0, 0],
         cases: Cases::new(),
         begun: (Vec::new(), 0),
@@ -1047,14 +1081,14 @@ fn main() -> ExitCode {
     let mut amiss = Vec::new();
     let others = run.arrivals.tables().into_iter().chain(run.head_bits.tables());
     let others = others.chain(run.cases.tables()).chain(run.line_cases.tables()).chain(run.queue_cases.tables());
-    let others = others.chain(run.tray_cases.tables());
+    let others = others.chain(run.tray_cases.tables()).chain(run.hearing.tables());
     for (title, table) in std::iter::once(calls).chain(others) {
         println!("{title}");
         table.print();
         println!();
         amiss.extend(table.amiss());
     }
-    println!("Chains of 1 to 8 nodes against one node: {}", run.chains);
+    println!("Chains of 0 to {} nodes against one node: {}", hearing::NODES, run.chains);
     println!("Lines of 1 to 8 frames read back: {}", run.read_back);
     println!("Lines read on behind any bits: {}", run.read_on);
     amiss.iter().for_each(|cell| println!("amiss: {cell}"));
