@@ -1,6 +1,6 @@
-/* The calls of the card, for a host in C. Document 01 is the law of what they do, as requests A2, A5 and
- * A9 of document 02 amend it; for the two calls of the signalling watch it is request A1, for the two of a
- * line of bits request A4, for the four of a waiting room requests A6 and A7, for a tray request A8.
+/* The calls of the card, for a host in C. Document 01 is the law of what they do, as requests A2, A5, A9
+ * and A10 of document 02 amend it; for the two calls of the signalling watch it is request A1, for the two of a line
+ * of bits request A4, for the four of a waiting room requests A6 and A7, for a tray request A8.
  *
  * Every call takes any octets and any numbers, comes to an end and gives a refusal number of
  * those documents, 0 when done. Where several apply, the one that stands first in the call's order,
@@ -18,8 +18,8 @@
  *
  * A refused call leaves SSEQ, the record, the watch, the line, the store, the queue, the list and the buffer
  * for what is sent as they came, but for one thing: an arrival refused with 17 or 20 still stores the
- * frame's more bit and noise in the record. A frame written leaves the rest of its buffer as it was, on a
- * line to the bit.
+ * frame's more bit and noise in the record, and with 17 it counts as late there. A frame written leaves the
+ * rest of its buffer as it was, on a line to the bit.
  *
  * A frame is the octets between two flags, zero bits taken out: 10 to 490 octets. None that the origin or
  * a node writes is longer than PELGRANT_FRAME_MAX; a line may carry others, up to PELGRANT_LINE_FRAME_MAX.
@@ -68,7 +68,7 @@ enum {
     PELGRANT_SAMPLES = 128,        /* in a packet, one to an octet */
     PELGRANT_FRAME_MAX = 138,      /* octets of the longest frame that the origin or a node writes */
     PELGRANT_LINE_FRAME_MAX = 490, /* octets of the longest frame that a line carries */
-    PELGRANT_RECORD = 6,           /* numbers in an endpoint's record */
+    PELGRANT_RECORD = 9,           /* numbers in an endpoint's record */
     PELGRANT_WATCH = 9,            /* numbers in a circuit's signalling watch */
     PELGRANT_QUEUE = 70,           /* numbers in a queue */
     PELGRANT_QUEUE_FRAMES = 32,    /* that may wait in one */
@@ -81,14 +81,21 @@ enum {
 /* The steps of a burst. */
 enum { PELGRANT_START = 0, PELGRANT_DATA = 1, PELGRANT_STOP = 2 };
 
-/* The fields of an endpoint's record. */
+/* The fields of an endpoint's record. The last three are counts, from the fresh record on: the frames
+ * scheduled, the frames refused with 17, and the packets missing. Missing grows by the least number of
+ * unscheduled packets that RSEQ r and the sequence s of a frame that is scheduled allow: s where r is 0, else
+ * 1 where s is 0, else the lesser of (s - r) modulo 15 and s + 1. Each count stops at 2^32 - 1; the host may
+ * set it to any number up to there, and so back to 0, whenever it likes. */
 enum {
     PELGRANT_BUILD_OUT = 0,
     PELGRANT_RSEQ = 1,
     PELGRANT_LAST_CLOCK = 2,
     PELGRANT_END = 3,
     PELGRANT_M_LAST = 4,
-    PELGRANT_LAST_NOISE = 5
+    PELGRANT_LAST_NOISE = 5,
+    PELGRANT_SCHEDULED = 6,
+    PELGRANT_LATE = 7,
+    PELGRANT_MISSING = 8
 };
 
 /* The fields of a watch: what the circuit is provisioned with, the state of both ends, the bits last
@@ -185,30 +192,31 @@ uint8_t pelgrant_read(const uint8_t *frame, size_t frame_len, uint64_t *answer, 
 
 /* Makes an endpoint's record: the build-out as it is given, all else 0. A build-out above 199 is
  * refused by the calls that use it, not here.
- * Lent: record, exactly 6 numbers.
+ * Lent: record, exactly 9 numbers.
  * Back: the record.
- * Refusals: 14 where record_len is not 6.
+ * Refusals: 14 where record_len is not 9.
  * Untouched: where refused, the record. */
 uint8_t pelgrant_fresh(uint8_t buildout, uint64_t *record, size_t record_len);
 
 /* A voice frame arrives at the endpoint: when it is to be played, and what.
- * Lent: the record, exactly 6 numbers; the frame; clock, the play clock in ms, up to 2^62.
+ * Lent: the record, exactly 9 numbers; the frame; clock, the play clock in ms, up to 2^62.
  * Back: answer[0] the time it is due, answer[1] 1 if the decoder is to be reset, else 0, answer[2] the
  *   sample bits S, answer[3] the blocks dropped, answer[4] the width that is left; the first 128 of samples,
  *   words of that width; the record moved on.
- * Refusals: 16 (answer below 5 or samples below 128), 14 where record_len is not 6, 14, 18,
- *   1, 2, 3, 24, 4, 5, 19, 6, 7, 8, 9, 17, 20.
+ * Refusals: 16 (answer below 5 or samples below 128), 14 where record_len is not 9 or a count of the record
+ *   fits no field (above 2^32 - 1), 14, 18, 1, 2, 3, 24, 4, 5, 19, 6, 7, 8, 9, 17, 20.
  * Untouched: frame; samples past the first 128; where refused, the record, save that 17 and 20 (late, due
- *   too far ahead) store the frame's more bit in M_LAST and its noise in the last noise: a late stop packet
- *   counts as a stop. */
+ *   too far ahead) store the frame's more bit in M_LAST and its noise in the last noise, so that a late stop
+ *   packet counts as a stop, and that 17 adds 1 to the late count. */
 uint8_t pelgrant_arrive(uint64_t *record, size_t record_len, const uint8_t *frame, size_t frame_len, uint64_t clock,
     uint64_t *answer, size_t answer_len, uint8_t *samples, size_t samples_len);
 
 /* The same on a record by value.
- * Lent and back as for pelgrant_arrive, but the record is only read, and the first 6 of after are the
- *   record after the call: where refused, the record as it came, save for what 17 and 20 store.
- * Refusals: as for pelgrant_arrive, the first 16 also where after is below 6.
- * Untouched: record and frame; samples past the first 128; after where record_len is not 6. */
+ * Lent and back as for pelgrant_arrive, but the record is only read, and the first 9 of after are the
+ *   record after the call: where refused, the record as it came, whatever its numbers are, save for what 17
+ *   and 20 store and 17 counts.
+ * Refusals: as for pelgrant_arrive, the first 16 also where after is below 9.
+ * Untouched: record and frame; samples past the first 128; after where record_len is not 9. */
 uint8_t pelgrant_arrive_value(const uint64_t *record, size_t record_len, const uint8_t *frame, size_t frame_len,
     uint64_t clock, uint64_t *after, size_t after_len, uint64_t *answer, size_t answer_len,
     uint8_t *samples, size_t samples_len);

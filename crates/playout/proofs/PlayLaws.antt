@@ -13,6 +13,7 @@ use Rattle.refusals.specs.Refusals.{_orElse_, refuse}
 use Rattle.refusals.proofs.RefusalLaws.{orElse-zero, orElse-assoc, orElse-take, orElse-pass, refuse-zero, if-taken, if-refused}
 use Rattle.playout.specs.declared.Endpoint.{Endpoint}
 use Rattle.playout.specs.declared.Decision.{Decision}
+use Rattle.playout.specs.Counts.{lateAfter}
 use Rattle.playout.specs.Play.{freshRecord, clockLimit, recordBad, refusal14, refusal18, inTurn, hold, dueAt, refusal17, refusal20, playRefusal, rseqAfter, afterScheduled, scheduledAt, stillStores, afterRefused, refusedWith, decision}
 
 -- what 14 does not refuse
@@ -88,15 +89,27 @@ still-stores n = ⊎-elim (λ e. rw e) (λ e. rw e)
 pub stores-nothing : (n : ℕ) → (n ≡ 17 → ⊥) → (n ≡ 20 → ⊥) → stillStores n ≡ false
 stores-nothing n p q = simp (ne-eqb n 17 p, ne-eqb n 20 q)
 
--- what a refusal leaves of the record: by 17 and 20 the frame's more bit and noise are stored, by any other number nothing is
+-- what a refusal leaves of the record: by 17 and 20 the frame's more bit and noise are stored, by 17 it is counted, by any other number nothing is
 module _ (e : Endpoint) (n more noise : ℕ) where
-  pub refused-stores : stillStores n ≡ true
-      → refusedWith e n more noise
-      ≡ record { refusal = n; due = 0; after = record { buildout = e .buildout; rseq = e .rseq; lastclock = e .lastclock; end = e .end; mlast = more; lastnoise = noise } }
+  -- the record with those two stored or not, and with this late count
+  abbrev pub storedWith : Bool → ℕ → Endpoint
+  storedWith stores late = record {
+    buildout = e .buildout;
+    rseq = e .rseq;
+    lastclock = e .lastclock;
+    end = e .end;
+    mlast = cond stores more (e .mlast);
+    lastnoise = cond stores noise (e .lastnoise);
+    scheduled = e .scheduled;
+    late = late;
+    missing = e .missing;
+  }
+
+  pub refused-stores : stillStores n ≡ true → refusedWith e n more noise ≡ record { refusal = n; due = 0; after = storedWith true (lateAfter n (e .late)) }
   refused-stores h = rw h
 
   pub refused-keeps : stillStores n ≡ false → refusedWith e n more noise ≡ record { refusal = n; due = 0; after = e }
-  refused-keeps h = rw h
+  refused-keeps h = let p = or-false (eqb n 17) (eqb n 20) h in rw (p .0, p .1)
 
 -- what no number of the arrival's order refuses
 pub record Scheduled (e : Endpoint) (clock given stamp seq : ℕ) : Type 0 where
@@ -185,8 +198,9 @@ module _ (e : Endpoint) (clock : ℕ) where
     pub last-stands : (m n : ℕ) → m ≡ first → m ≡ 0 → n ≡ last → n ≡ playRefusal e clock given stamp seq
     last-stands m n p z q = orElse-pass first last m n p z q ∙ sym first-last
 
-    pub due-fits : (due : ℕ) → due ≡ dueAt e clock stamp seq → playRefusal e clock given stamp seq ≡ 0 → due ≤ clockLimit + 439
-    due-fits due p z = let s = scheduled z in omega arith
+    -- what `scheduled` asks of the record and the due time
+    pub due-fits : (due : ℕ) → due ≡ dueAt e clock stamp seq → playRefusal e clock given stamp seq ≡ 0 → (due ≤ clockLimit + 439) × (e .rseq ≤ 15)
+    due-fits due p z = let s = scheduled z in (omega arith, s .ranged .rseq-low)
 
     -- on a record in range 14 does not apply, and the order goes on after it
     pub play-ranged : refusal14 e ≡ 0

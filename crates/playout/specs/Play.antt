@@ -1,4 +1,4 @@
--- Document 01, "Play-out", and numbers 14, 17, 18 and 20 of "Refusal numbers", amended by request A2: the decision over a frame's plain fields and the endpoint's record.
+-- Document 01, "Play-out", and numbers 14, 17, 18 and 20 of "Refusal numbers", amended by requests A2 and A10: the decision over a frame's plain fields and the endpoint's record.
 use Prim.Native.Nat.{ℕ, _+_, _-_, _^_, max}
 use mathlib.Core.Bool.{Bool, cond, not, _&&_, _||_}
 use lib.Dec.{ltb, eqb}
@@ -6,10 +6,11 @@ use Rattle.octets.specs.Sequence.{nextNumber}
 use Rattle.refusals.specs.Refusals.{_orElse_, refuse, ifTaken}
 use Rattle.playout.specs.declared.Endpoint.{Endpoint}
 use Rattle.playout.specs.declared.Decision.{Decision}
+use Rattle.playout.specs.Counts.{stopped, lateAfter, missingBetween}
 
 -- fresh, all but B are 0
 abbrev pub freshRecord : ℕ → Endpoint
-freshRecord b = record { buildout = b; rseq = 0; lastclock = 0; end = 0; mlast = 0; lastnoise = 0 }
+freshRecord b = record { buildout = b; rseq = 0; lastclock = 0; end = 0; mlast = 0; lastnoise = 0; scheduled = 0; late = 0; missing = 0 }
 
 -- the play clock is a count of ms up to 2^62
 abbrev pub clockLimit : ℕ
@@ -81,6 +82,9 @@ afterScheduled e clock seq more noise due = record {
   end = due + 16;
   mlast = more;
   lastnoise = noise;
+  scheduled = stopped (e .scheduled + 1);
+  late = e .late;
+  missing = stopped (e .missing + missingBetween (e .rseq) seq);
 }
 
 abbrev pub scheduledAt : Endpoint → ℕ → ℕ → ℕ → ℕ → ℕ → Decision
@@ -90,7 +94,7 @@ scheduledAt e clock seq more noise due = record { refusal = 0; due = due; after 
 abbrev pub stillStores : ℕ → Bool
 stillStores n = eqb n 17 || eqb n 20
 
--- the record after a frame that is refused: 17 and 20 store those two and nothing else, every other number nothing
+-- the record after a frame that is refused: 17 and 20 store those two, 17 counts as late (A10), and nothing else changes; every other number leaves it whole
 abbrev pub afterRefused : Endpoint → ℕ → ℕ → ℕ → Endpoint
 afterRefused e n more noise = record {
   buildout = e .buildout;
@@ -99,6 +103,9 @@ afterRefused e n more noise = record {
   end = e .end;
   mlast = cond (stillStores n) more (e .mlast);
   lastnoise = cond (stillStores n) noise (e .lastnoise);
+  scheduled = e .scheduled;
+  late = lateAfter n (e .late);
+  missing = e .missing;
 }
 
 abbrev pub refusedWith : Endpoint → ℕ → ℕ → ℕ → Decision

@@ -5,10 +5,14 @@ use refusals::refuse;
 ghost use mathlib.Core.Path.{_≡_};
 ghost use Prim.Native.Nat.{_+_, _≤_};
 ghost use lib.Dec.{ltb};
+ghost use Rattle.playout.specs.Counts.{stopped, missingBetween};
 ghost use Rattle.playout.specs.Play.{clockLimit, buildoutBad, refusal14, refusal18, inTurn, hold, dueAt, stampLate, refusal17, rseqAfter, scheduledAt, refusedWith, decision};
 
 // The play clock is a count of ms up to 2^62.
 const CLOCK_LIMIT: u64 = 4611686018427387904;
+
+// Each count stops at 2^32-1.
+const COUNT_LIMIT: u32 = 4294967295;
 
 pub struct Endpoint {
     pub buildout: u8,
@@ -17,6 +21,9 @@ pub struct Endpoint {
     pub end: u64,
     pub mlast: u8,
     pub lastnoise: u8,
+    pub scheduled: u32,
+    pub late: u32,
+    pub missing: u32,
 }
 
 // What is decided of a frame by its fields, and the record after it.
@@ -109,7 +116,32 @@ fn rseq_after(seq: u8, more: u8) -> u8
     if more == 1 { next_number(seq) } else { 0 }
 }
 
-// A frame that is late, or due too far ahead, was received all the same: it stores its more bit and noise.
+// A count that has grown. A sum that rolled over is below what was added to.
+fn counted(count: u32, more: u32) -> u32
+    ensures { λ r. ⌜ r ≡ stopped (count + more) ⌝ }
+{
+    let sum = std::num::wrapping_add_u32(count, more);
+    if sum < count { COUNT_LIMIT } else { sum }
+}
+
+// `decide` has refused an RSEQ above 15.
+fn missing_between(r: u8, s: u8) -> u32
+    requires { ⌜ r ≤ 15 ⌝ }
+    ensures { λ n. ⌜ n ≡ missingBetween r s ⌝ }
+{
+    let s = s as u32;
+    if r == 0 {
+        return s;
+    }
+    if s == 0 {
+        return 1;
+    }
+    let went_on = (s + 15 - (r as u32)) % 15;
+    let began = s + 1;
+    if went_on <= began { went_on } else { began }
+}
+
+// A frame that is late, or due too far ahead, was received all the same: it stores its more bit and noise. Late counts 17 alone.
 fn refused(e: Endpoint, n: u8, more: u8, noise: u8) -> Decision
     ensures { λ r. ⌜ r ≡ refusedWith e n more noise ⌝ }
 {
@@ -118,6 +150,9 @@ fn refused(e: Endpoint, n: u8, more: u8, noise: u8) -> Decision
         left.mlast = more;
         left.lastnoise = noise;
     }
+    if n == 17 {
+        left.late = counted(e.late, 1);
+    }
     Decision {
         refusal: n,
         due: 0,
@@ -125,12 +160,14 @@ fn refused(e: Endpoint, n: u8, more: u8, noise: u8) -> Decision
     }
 }
 
-// `decide` has refused what is due later.
+// `decide` has refused what is due later, and an RSEQ above 15.
 fn scheduled(e: Endpoint, clock: u64, seq: u8, more: u8, noise: u8, due: u64) -> Decision
-    requires { ⌜ due ≤ clockLimit + 439 ⌝ }
+    requires { ⌜ (due ≤ clockLimit + 439) × (e .rseq ≤ 15) ⌝ }
     ensures { λ r. ⌜ r ≡ scheduledAt e clock seq more noise due ⌝ }
 {
     let next = rseq_after(seq, more);
+    let one_more = counted(e.scheduled, 1);
+    let gone = counted(e.missing, missing_between(e.rseq, seq));
     Decision {
         refusal: 0,
         due: due,
@@ -141,6 +178,9 @@ fn scheduled(e: Endpoint, clock: u64, seq: u8, more: u8, noise: u8, due: u64) ->
             end: due + 16,
             mlast: more,
             lastnoise: noise,
+            scheduled: one_more,
+            late: e.late,
+            missing: gone,
         },
     }
 }
