@@ -2,13 +2,13 @@
 use Prim.Native.Nat.{ℕ, suc, _+_, _≤_}
 use mathlib.Core.Path.{_≡_, refl, sym, ap, ap₂, _∙_}
 use mathlib.Core.Bool.{Bool, true, false, cond, _||_}
-use lib.Dec.{ltb}
+use lib.Dec.{ltb, eqb}
 use mathlib.Core.List.{List}
 use mathlib.Core.Logic.{_⊎_, ⊎-elim}
 use native.Mathlib.Omega.{arith}
 use borrow.Author.Tests.{ne-eqb}
 use Rattle.frame.specs.Fields.{stamp, moreBit, sequence, noise}
-use Rattle.refusals.specs.Refusals.{_orElse_, refuse}
+use Rattle.refusals.specs.Refusals.{_orElse_, refuse, ifTaken}
 use Rattle.refusals.proofs.RefusalLaws.{orElse-take, orElse-assoc}
 use Rattle.frame.specs.Orders.{voiceRefusal}
 use Rattle.playout.specs.declared.Endpoint.{Endpoint}
@@ -16,12 +16,13 @@ use Rattle.playout.specs.declared.Decision.{Decision}
 use Rattle.endpoint.specs.declared.Told.{Told}
 use Rattle.endpoint.specs.declared.Outcome.{Outcome}
 use Rattle.endpoint.specs.declared.Arrived.{Arrived}
-use Rattle.playout.specs.Play.{clockLimit, recordBad, refusal14, refusal18, dueAt, playRefusal, afterScheduled, stillStores, afterRefused, decision}
+use Rattle.playout.specs.Counts.{stopped, lateAfter, missingBetween}
+use Rattle.playout.specs.Play.{clockLimit, recordBad, refusal14, refusal18, dueAt, playRefusal, rseqAfter, afterScheduled, stillStores, afterRefused, decision}
 use Rattle.endpoint.specs.Read.{heardOf, readAnswer}
 use Rattle.endpoint.specs.Arrival.{resetOf, frameDecision, arrivalBy, arrivalOf}
 use Rattle.endpoint.specs.Outcome.{toldOf, outcomeOf}
 use Rattle.endpoint.specs.Calls.{isReceived}
-use Rattle.playout.proofs.PlayLaws.{by-decision, first-stands, decided-with, decided-number, decided-scheduled, decided-ranged, decided-near, decided-ahead, decided-apart, decided-left, decided-readable, still-stores, stores-nothing, refused-stores, refused-keeps}
+use Rattle.playout.proofs.PlayLaws.{by-decision, first-stands, decided-with, decided-number, decided-scheduled, decided-ranged, decided-near, decided-ahead, decided-apart, decided-left, decided-readable, still-stores, stores-nothing, storedWith, refused-stores, refused-keeps}
 
 -- neither the number of the record nor that of the clock stores anything
 pub early-stores-nothing : (e : Endpoint) (clock : ℕ) → stillStores (refusal14 e orElse refusal18 e clock) ≡ false
@@ -107,10 +108,20 @@ module _ (e : Endpoint) (f : List ℕ) (clock : ℕ) where
   unfolding arrivalOf arrivalBy frameDecision
   arrival-left = decided-left e clock (voiceRefusal f) (stamp f) (sequence f) (moreBit f) (noise f)
 
-  -- a call refused with 17 or 20 leaves B, RSEQ, last clock and end as they came, and the frame's own more bit and noise
+  -- a call refused with 17 or 20 leaves the frame's own more bit and noise, one late frame more for 17, and all else as it came
   pub arrival-stored : (arrivalOf e f clock .answer .refusal ≡ 17) ⊎ (arrivalOf e f clock .answer .refusal ≡ 20)
       → arrivalOf e f clock .after
-      ≡ record { buildout = e .buildout; rseq = e .rseq; lastclock = e .lastclock; end = e .end; mlast = moreBit f; lastnoise = noise f }
+      ≡ record {
+        buildout = e .buildout;
+        rseq = e .rseq;
+        lastclock = e .lastclock;
+        end = e .end;
+        mlast = moreBit f;
+        lastnoise = noise f;
+        scheduled = e .scheduled;
+        late = lateAfter (arrivalOf e f clock .answer .refusal) (e .late);
+        missing = e .missing;
+      }
   arrival-stored h =
       arrival-left (⊎-elim (λ p z. omega arith) (λ p z. omega arith) h)
       ∙ ap (λ (d : Decision). d .after) (refused-stores e (arrivalOf e f clock .answer .refusal) (moreBit f) (noise f) (still-stores (arrivalOf e f clock .answer .refusal) h))
@@ -131,6 +142,29 @@ module _ (e : Endpoint) (f : List ℕ) (clock : ℕ) where
       (λ d. (d .after .mlast ≡ cond (isReceived (d .refusal)) (moreBit f) (e .mlast)) × (d .after .lastnoise ≡ cond (isReceived (d .refusal)) (noise f) (e .lastnoise)))
       (λ z. (refl, refl))
       (λ k z. let h = ne-eqb (suc k) 0 (λ w. omega arith) in (rw h, rw h))
+
+  -- what is counted goes by the call's number: 0 is scheduled, with the packets missing before it, and 17 is late
+  pub arrival-counts : (arrivalOf e f clock .after .scheduled ≡ cond (eqb (arrivalOf e f clock .answer .refusal) 0) (stopped (e .scheduled + 1)) (e .scheduled))
+      × (arrivalOf e f clock .after .late ≡ lateAfter (arrivalOf e f clock .answer .refusal) (e .late))
+      × (arrivalOf e f clock .after .missing ≡ ifTaken (arrivalOf e f clock .answer .refusal) (stopped (e .missing + missingBetween (e .rseq) (sequence f))) (e .missing))
+  unfolding arrivalOf arrivalBy frameDecision
+  arrival-counts =
+      by-decision e clock (voiceRefusal f) (stamp f) (sequence f) (moreBit f) (noise f)
+      (λ d.
+        (d .after .scheduled ≡ cond (eqb (d .refusal) 0) (stopped (e .scheduled + 1)) (e .scheduled))
+        × (d .after .late ≡ lateAfter (d .refusal) (e .late))
+        × (d .after .missing ≡ ifTaken (d .refusal) (stopped (e .missing + missingBetween (e .rseq) (sequence f))) (e .missing)))
+      (λ z. (refl, refl, refl))
+      (λ k z. let h = ne-eqb (suc k) 0 (λ w. omega arith) in (rw h, refl, refl))
+
+  -- and so does RSEQ
+  pub arrival-rseq : arrivalOf e f clock .after .rseq ≡ ifTaken (arrivalOf e f clock .answer .refusal) (rseqAfter (sequence f) (moreBit f)) (e .rseq)
+  unfolding arrivalOf arrivalBy frameDecision
+  arrival-rseq =
+      by-decision e clock (voiceRefusal f) (stamp f) (sequence f) (moreBit f) (noise f)
+      (λ d. d .after .rseq ≡ ifTaken (d .refusal) (rseqAfter (sequence f) (moreBit f)) (e .rseq))
+      (λ z. refl)
+      (λ k z. refl)
 
   -- the number of the order, and where there is none the due time and the record after
   pub arrival-number : arrivalOf e f clock .answer .refusal ≡ playRefusal e clock (voiceRefusal f) (stamp f) (sequence f)

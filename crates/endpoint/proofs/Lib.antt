@@ -1,5 +1,6 @@
 pub mod ArrivalLaws
 pub mod CallsLaws
+pub mod CountsLaws
 pub mod FillLaws
 pub mod IgnoredLaws
 pub mod LateLaws

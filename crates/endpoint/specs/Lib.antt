@@ -1,5 +1,6 @@
 pub mod Arrival
 pub mod Calls
+pub mod Counts
 pub mod Fill
 pub mod Outcome
 pub mod Read

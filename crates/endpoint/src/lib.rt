@@ -45,6 +45,9 @@ pub fn fresh(buildout: u8) -> Endpoint
         end: 0,
         mlast: 0,
         lastnoise: 0,
+        scheduled: 0,
+        late: 0,
+        missing: 0,
     }
 }
 
@@ -250,6 +253,9 @@ pub fn arrive(e: &mut Endpoint, frame: &[u8], clock: u64) -> Arrival
         end: e.end,
         mlast: e.mlast,
         lastnoise: e.lastnoise,
+        scheduled: e.scheduled,
+        late: e.late,
+        missing: e.missing,
     };
     let a = arrive_value(before, frame, clock);
     let after = a.after;
@@ -259,6 +265,9 @@ pub fn arrive(e: &mut Endpoint, frame: &[u8], clock: u64) -> Arrival
     e.end = after.end;
     e.mlast = after.mlast;
     e.lastnoise = after.lastnoise;
+    e.scheduled = after.scheduled;
+    e.late = after.late;
+    e.missing = after.missing;
     a.answer
 }
 

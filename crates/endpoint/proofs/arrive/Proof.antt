@@ -129,40 +129,46 @@ module _ {M : Type 1} (𝓤 : URA M) (H : Heap 𝓤) (A : Atoms 𝓤) (W : Given
     walk : ent 𝓤 (onEntry 𝓤 H A self.signature (κ, (κ′, tt)) (q, (q′, tt)) a at) (WpFn 𝓤 H C Λ code.function (vptr b o ∷ sliceVal (the-frame .ptr) (length (the-frame .now)) ∷ vint w64 the-clock ∷ []) Post)
     walk =
         qed W ((‵ (flft κ q) ⊛ (‵ (flft κ′ q′) ⊛ ‵ ftrue)) ∷ ‵ (owns (MutRef (named 0) κ Sₜ.the-row ∷ ShrSlice (named 1) κ′ u8 ∷ u64 ∷ []) a at) ∷ []) ∵ enter ! C Λ code.function (vptr b o ∷ sliceVal (the-frame .ptr) (length (the-frame .now)) ∷ vint w64 the-clock ∷ []) _ $
-        alloc1 ! (λ l₀. alloc1 ! (λ l₁. alloc1 ! (λ l₂. alloc1 ! (λ l₃. alloc1 ! (λ l₄. alloc1 ! (λ l₅. alloc1 ! (λ l₆. alloc1 ! (λ l₇. alloc1 ! (λ l₈. alloc1 ! (λ l₉. alloc1 ! (λ l₁₀. alloc1 ! (λ l₁₁. alloc1 ! (λ l₁₂. alloc0 ! $ params1 ! $ pass1 ! (init ! 22 refl (tt, tt)) $ pass1 ! (init ! 20 refl (tt, (tt, (record { fits = the-frame-fits }, tt)))) $ pass1 ! (init ! 18 refl (tt, record { fits = the-clock-fits })) $ pass0 ! $
+        alloc1 ! (λ l₀. alloc1 ! (λ l₁. alloc1 ! (λ l₂. alloc1 ! (λ l₃. alloc1 ! (λ l₄. alloc1 ! (λ l₅. alloc1 ! (λ l₆. alloc1 ! (λ l₇. alloc1 ! (λ l₈. alloc1 ! (λ l₉. alloc1 ! (λ l₁₀. alloc1 ! (λ l₁₁. alloc1 ! (λ l₁₂. alloc1 ! (λ l₁₃. alloc1 ! (λ l₁₄. alloc1 ! (λ l₁₅. alloc0 ! $ params1 ! $ pass1 ! (init ! 28 refl (tt, tt)) $ pass1 ! (init ! 26 refl (tt, (tt, (record { fits = the-frame-fits }, tt)))) $ pass1 ! (init ! 24 refl (tt, record { fits = the-clock-fits })) $ pass0 ! $
         -- the borrow is opened
-        move ! (27 ∷ []) $ fsplit ! $ move ! (1 ∷ []) $ fsplit ! $ use1 W (‵ (ShrSlice (named 1) κ′ u8 .own the-frame (sliceVal (the-frame .ptr) (length (the-frame .now)) ∷ [])) ⊛ ‵ (ShrSlice (named 1) κ′ u8 .own the-frame (sliceVal (the-frame .ptr) (length (the-frame .now)) ∷ []))) (shr-slice-copy 𝓤 H A W (named 1) κ′ u8 .twice the-frame _) $ split ! $ move ! (3 ∷ []) $ fsplit3 ! $ drop ! $ move ! (31 ∷ []) $ split ! $ move ! (2 ∷ 3 ∷ 0 ∷ []) $
+        move ! (33 ∷ []) $ fsplit ! $ move ! (1 ∷ []) $ fsplit ! $ use1 W (‵ (ShrSlice (named 1) κ′ u8 .own the-frame (sliceVal (the-frame .ptr) (length (the-frame .now)) ∷ [])) ⊛ ‵ (ShrSlice (named 1) κ′ u8 .own the-frame (sliceVal (the-frame .ptr) (length (the-frame .now)) ∷ []))) (shr-slice-copy 𝓤 H A W (named 1) κ′ u8 .twice the-frame _) $ split ! $ move ! (3 ∷ []) $ fsplit3 ! $ drop ! $ move ! (37 ∷ []) $ split ! $ move ! (2 ∷ 3 ∷ 0 ∷ []) $
         opens ! tt Sₜ.the-row {h = h} b o (λ vs. spelt ! Sₜ.the-row (Is Sₜ.the-row) (shows 𝓤 H A Sₜ.the-row) (LL.vals Sₜ.the-type Sₗ.the-laws) (LL.tells Sₜ.the-type Sₗ.the-laws) fullShare h vs b o $
         move ! (1 ∷ []) $ peeks ! Sₜ.the-row (Is Sₜ.the-row) (shows 𝓤 H A Sₜ.the-row) h (valS h ∷ []) (λ was. move ! (1 ∷ 0 ∷ []) $
-        -- [the record's cell; what it owns; the open borrow; obs; auth; the slice's token; what the slice owns, twice; what the numbers own; _12; …; …; _1; …; room for _0; …]: the fields are read, and `before` is made of them
-        assigns ! (of-opd ! (load ! (from ! (hop ! (look ! 31 refl) (fld ! refl (stop !)))) (look-in ! 0 (sub ! 0 refl (whole !))))) (from ! (stop !)) (init ! 19 refl (tt, typedS h was .0)) $  -- buildout
-        assigns ! (of-opd ! (load ! (from ! (hop ! (look ! 31 refl) (fld ! refl (stop !)))) (look-in ! 0 (sub ! 1 refl (whole !))))) (from ! (stop !)) (init ! 17 refl (tt, typedS h was .1 .0)) $  -- rseq
-        assigns ! (of-opd ! (load ! (from ! (hop ! (look ! 31 refl) (fld ! refl (stop !)))) (look-in ! 0 (sub ! 2 refl (whole !))))) (from ! (stop !)) (init ! 15 refl (tt, typedS h was .1 .1 .0)) $  -- lastclock
-        assigns ! (of-opd ! (load ! (from ! (hop ! (look ! 31 refl) (fld ! refl (stop !)))) (look-in ! 0 (sub ! 3 refl (whole !))))) (from ! (stop !)) (init ! 13 refl (tt, typedS h was .1 .1 .1 .0)) $  -- end
-        assigns ! (of-opd ! (load ! (from ! (hop ! (look ! 31 refl) (fld ! refl (stop !)))) (look-in ! 0 (sub ! 4 refl (whole !))))) (from ! (stop !)) (init ! 11 refl (tt, typedS h was .1 .1 .1 .1 .0)) $  -- mlast
-        assigns ! (of-opd ! (load ! (from ! (hop ! (look ! 31 refl) (fld ! refl (stop !)))) (look-in ! 0 (sub ! 5 refl (whole !))))) (from ! (stop !)) (init ! 9 refl (tt, typedS h was .1 .1 .1 .1 .1 .0)) $  -- lastnoise
-        assigns ! (agg ! (and-then ! (load ! (from ! (stop !)) (look ! 19 refl)) (and-then ! (load ! (from ! (stop !)) (look ! 17 refl)) (and-then ! (load ! (from ! (stop !)) (look ! 15 refl)) (and-then ! (load ! (from ! (stop !)) (look ! 13 refl)) (and-then ! (load ! (from ! (stop !)) (look ! 11 refl)) (and-then ! (load ! (from ! (stop !)) (look ! 9 refl)) (no-more !)))))))) (from ! (stop !)) (init ! 25 refl (LL.lawful Sₜ.the-type Sₗ.the-laws 𝓤 H A W .typed h _ was .0)) $
+        -- [the record's cell; what it owns; the open borrow; obs; auth; the slice's token; what the slice owns, twice; what the numbers own; _15; …; …; _1; …; room for _0; …]: the fields are read, and `before` is made of them
+        assigns ! (of-opd ! (load ! (from ! (hop ! (look ! 37 refl) (fld ! refl (stop !)))) (look-in ! 0 (sub ! 0 refl (whole !))))) (from ! (stop !)) (init ! 25 refl (tt, typedS h was .0)) $  -- buildout
+        assigns ! (of-opd ! (load ! (from ! (hop ! (look ! 37 refl) (fld ! refl (stop !)))) (look-in ! 0 (sub ! 1 refl (whole !))))) (from ! (stop !)) (init ! 23 refl (tt, typedS h was .1 .0)) $  -- rseq
+        assigns ! (of-opd ! (load ! (from ! (hop ! (look ! 37 refl) (fld ! refl (stop !)))) (look-in ! 0 (sub ! 2 refl (whole !))))) (from ! (stop !)) (init ! 21 refl (tt, typedS h was .1 .1 .0)) $  -- lastclock
+        assigns ! (of-opd ! (load ! (from ! (hop ! (look ! 37 refl) (fld ! refl (stop !)))) (look-in ! 0 (sub ! 3 refl (whole !))))) (from ! (stop !)) (init ! 19 refl (tt, typedS h was .1 .1 .1 .0)) $  -- end
+        assigns ! (of-opd ! (load ! (from ! (hop ! (look ! 37 refl) (fld ! refl (stop !)))) (look-in ! 0 (sub ! 4 refl (whole !))))) (from ! (stop !)) (init ! 17 refl (tt, typedS h was .1 .1 .1 .1 .0)) $  -- mlast
+        assigns ! (of-opd ! (load ! (from ! (hop ! (look ! 37 refl) (fld ! refl (stop !)))) (look-in ! 0 (sub ! 5 refl (whole !))))) (from ! (stop !)) (init ! 15 refl (tt, typedS h was .1 .1 .1 .1 .1 .0)) $  -- lastnoise
+        assigns ! (of-opd ! (load ! (from ! (hop ! (look ! 37 refl) (fld ! refl (stop !)))) (look-in ! 0 (sub ! 6 refl (whole !))))) (from ! (stop !)) (init ! 13 refl (tt, typedS h was .1 .1 .1 .1 .1 .1 .0)) $  -- scheduled
+        assigns ! (of-opd ! (load ! (from ! (hop ! (look ! 37 refl) (fld ! refl (stop !)))) (look-in ! 0 (sub ! 7 refl (whole !))))) (from ! (stop !)) (init ! 11 refl (tt, typedS h was .1 .1 .1 .1 .1 .1 .1 .0)) $  -- late
+        assigns ! (of-opd ! (load ! (from ! (hop ! (look ! 37 refl) (fld ! refl (stop !)))) (look-in ! 0 (sub ! 8 refl (whole !))))) (from ! (stop !)) (init ! 9 refl (tt, typedS h was .1 .1 .1 .1 .1 .1 .1 .1 .0)) $  -- missing
+        assigns ! (agg ! (and-then ! (load ! (from ! (stop !)) (look ! 25 refl)) (and-then ! (load ! (from ! (stop !)) (look ! 23 refl)) (and-then ! (load ! (from ! (stop !)) (look ! 21 refl)) (and-then ! (load ! (from ! (stop !)) (look ! 19 refl)) (and-then ! (load ! (from ! (stop !)) (look ! 17 refl)) (and-then ! (load ! (from ! (stop !)) (look ! 15 refl)) (and-then ! (load ! (from ! (stop !)) (look ! 13 refl)) (and-then ! (load ! (from ! (stop !)) (look ! 11 refl)) (and-then ! (load ! (from ! (stop !)) (look ! 9 refl)) (no-more !))))))))))) (from ! (stop !)) (init ! 31 refl (LL.lawful Sₜ.the-type Sₗ.the-laws 𝓤 H A W .typed h _ was .0)) $
         -- the call
         move ! (1 ∷ 5 ∷ 6 ∷ []) $ use3 W (raw (Callee 𝓤 H A at-mem run .pre to-callee)) gives $
-        calls-at ! fm (Callee 𝓤 H A at-mem run) known to-callee (and-then ! (load ! (from ! (stop !)) (look ! 23 refl)) (and-then ! (load ! (from ! (stop !)) (look ! 27 refl)) (and-then ! (load ! (from ! (stop !)) (look ! 25 refl)) (no-more !)))) (λ w.
+        calls-at ! fm (Callee 𝓤 H A at-mem run) known to-callee (and-then ! (load ! (from ! (stop !)) (look ! 29 refl)) (and-then ! (load ! (from ! (stop !)) (look ! 33 refl)) (and-then ! (load ! (from ! (stop !)) (look ! 31 refl)) (no-more !)))) (λ w.
         use1 W (later (some (λ (r : Arrived). ((‵ (flft κ′ q′) ⊛ ‵ ftrue) ⊛ ‵ (Rₜ.the-row .own r (w ∷ []))) ⊛ raw (ensured 𝓤 H A callee.ended (callee.clauses 𝓤 H A at-mem run) (κ′, tt) (h, plainly) tt r)))) (id⊢ 𝓤 _) $ await ! tt $ pick ! (λ r.
         split ! $ move ! (1 ∷ []) $ use1 W (raw (fact 𝓤 (r ≡ right))) (told r) $ heard ! (r ≡ right) (λ e. split ! $ move ! (1 ∷ []) $
         peeks ! Rₜ.the-row (Is Rₜ.the-row) (shows 𝓤 H A Rₜ.the-row) r (w ∷ []) (λ is.
-        land ! (from ! (stop !)) (init ! 22 refl (LL.lawful Rₜ.the-type Rₗ.the-laws 𝓤 H A W .typed r _ is .0)) $ rewrite ! 22 (λ (u : Val). ‵ (fat fullShare Rₗ.mir l₅ 0 u)) (ap only (LL.tells Rₜ.the-type Rₗ.the-laws r (w ∷ []) is)) refl $
-        -- [what the callee's record owns; the slice's token; the record's cell; the open borrow; obs; auth; …; _12; …]: `after` is taken out, and its fields are stored
-        assigns ! (of-opd ! (load ! (from ! (fld ! refl (stop !))) (look-in ! 22 (sub ! 1 refl (whole !))))) (from ! (stop !)) (init ! 20 refl (LL.lawful Sₜ.the-type Sₗ.the-laws 𝓤 H A W .typed (r .after) _ (isS r w is) .0)) $
-        assigns ! (of-opd ! (load ! (from ! (fld ! refl (stop !))) (look-in ! 20 (sub ! 0 refl (whole !))))) (from ! (hop ! (look ! 30 refl) (fld ! refl (stop !)))) (store-in ! 2 (sub ! 0 refl (whole !)) (tt, typedS (r .after) (isS r w is) .0)) $  -- buildout
-        assigns ! (of-opd ! (load ! (from ! (fld ! refl (stop !))) (look-in ! 20 (sub ! 1 refl (whole !))))) (from ! (hop ! (look ! 30 refl) (fld ! refl (stop !)))) (store-in ! 2 (sub ! 1 refl (whole !)) (tt, typedS (r .after) (isS r w is) .1 .0)) $  -- rseq
-        assigns ! (of-opd ! (load ! (from ! (fld ! refl (stop !))) (look-in ! 20 (sub ! 2 refl (whole !))))) (from ! (hop ! (look ! 30 refl) (fld ! refl (stop !)))) (store-in ! 2 (sub ! 2 refl (whole !)) (tt, typedS (r .after) (isS r w is) .1 .1 .0)) $  -- lastclock
-        assigns ! (of-opd ! (load ! (from ! (fld ! refl (stop !))) (look-in ! 20 (sub ! 3 refl (whole !))))) (from ! (hop ! (look ! 30 refl) (fld ! refl (stop !)))) (store-in ! 2 (sub ! 3 refl (whole !)) (tt, typedS (r .after) (isS r w is) .1 .1 .1 .0)) $  -- end
-        assigns ! (of-opd ! (load ! (from ! (fld ! refl (stop !))) (look-in ! 20 (sub ! 4 refl (whole !))))) (from ! (hop ! (look ! 30 refl) (fld ! refl (stop !)))) (store-in ! 2 (sub ! 4 refl (whole !)) (tt, typedS (r .after) (isS r w is) .1 .1 .1 .1 .0)) $  -- mlast
-        assigns ! (of-opd ! (load ! (from ! (fld ! refl (stop !))) (look-in ! 20 (sub ! 5 refl (whole !))))) (from ! (hop ! (look ! 30 refl) (fld ! refl (stop !)))) (store-in ! 2 (sub ! 5 refl (whole !)) (tt, typedS (r .after) (isS r w is) .1 .1 .1 .1 .1 .0)) $  -- lastnoise
-        assigns ! (of-opd ! (load ! (from ! (fld ! refl (stop !))) (look-in ! 22 (sub ! 0 refl (whole !))))) (from ! (stop !)) (init ! 32 refl (LL.lawful Aₜ.the-type Aₗ.the-laws 𝓤 H A W .typed (r .answer) _ (isA r w is) .0)) $
+        land ! (from ! (stop !)) (init ! 28 refl (LL.lawful Rₜ.the-type Rₗ.the-laws 𝓤 H A W .typed r _ is .0)) $ rewrite ! 28 (λ (u : Val). ‵ (fat fullShare Rₗ.mir l₅ 0 u)) (ap only (LL.tells Rₜ.the-type Rₗ.the-laws r (w ∷ []) is)) refl $
+        -- [what the callee's record owns; the slice's token; the record's cell; the open borrow; obs; auth; …; _15; …]: `after` is taken out, and its fields are stored
+        assigns ! (of-opd ! (load ! (from ! (fld ! refl (stop !))) (look-in ! 28 (sub ! 1 refl (whole !))))) (from ! (stop !)) (init ! 26 refl (LL.lawful Sₜ.the-type Sₗ.the-laws 𝓤 H A W .typed (r .after) _ (isS r w is) .0)) $
+        assigns ! (of-opd ! (load ! (from ! (fld ! refl (stop !))) (look-in ! 26 (sub ! 0 refl (whole !))))) (from ! (hop ! (look ! 36 refl) (fld ! refl (stop !)))) (store-in ! 2 (sub ! 0 refl (whole !)) (tt, typedS (r .after) (isS r w is) .0)) $  -- buildout
+        assigns ! (of-opd ! (load ! (from ! (fld ! refl (stop !))) (look-in ! 26 (sub ! 1 refl (whole !))))) (from ! (hop ! (look ! 36 refl) (fld ! refl (stop !)))) (store-in ! 2 (sub ! 1 refl (whole !)) (tt, typedS (r .after) (isS r w is) .1 .0)) $  -- rseq
+        assigns ! (of-opd ! (load ! (from ! (fld ! refl (stop !))) (look-in ! 26 (sub ! 2 refl (whole !))))) (from ! (hop ! (look ! 36 refl) (fld ! refl (stop !)))) (store-in ! 2 (sub ! 2 refl (whole !)) (tt, typedS (r .after) (isS r w is) .1 .1 .0)) $  -- lastclock
+        assigns ! (of-opd ! (load ! (from ! (fld ! refl (stop !))) (look-in ! 26 (sub ! 3 refl (whole !))))) (from ! (hop ! (look ! 36 refl) (fld ! refl (stop !)))) (store-in ! 2 (sub ! 3 refl (whole !)) (tt, typedS (r .after) (isS r w is) .1 .1 .1 .0)) $  -- end
+        assigns ! (of-opd ! (load ! (from ! (fld ! refl (stop !))) (look-in ! 26 (sub ! 4 refl (whole !))))) (from ! (hop ! (look ! 36 refl) (fld ! refl (stop !)))) (store-in ! 2 (sub ! 4 refl (whole !)) (tt, typedS (r .after) (isS r w is) .1 .1 .1 .1 .0)) $  -- mlast
+        assigns ! (of-opd ! (load ! (from ! (fld ! refl (stop !))) (look-in ! 26 (sub ! 5 refl (whole !))))) (from ! (hop ! (look ! 36 refl) (fld ! refl (stop !)))) (store-in ! 2 (sub ! 5 refl (whole !)) (tt, typedS (r .after) (isS r w is) .1 .1 .1 .1 .1 .0)) $  -- lastnoise
+        assigns ! (of-opd ! (load ! (from ! (fld ! refl (stop !))) (look-in ! 26 (sub ! 6 refl (whole !))))) (from ! (hop ! (look ! 36 refl) (fld ! refl (stop !)))) (store-in ! 2 (sub ! 6 refl (whole !)) (tt, typedS (r .after) (isS r w is) .1 .1 .1 .1 .1 .1 .0)) $  -- scheduled
+        assigns ! (of-opd ! (load ! (from ! (fld ! refl (stop !))) (look-in ! 26 (sub ! 7 refl (whole !))))) (from ! (hop ! (look ! 36 refl) (fld ! refl (stop !)))) (store-in ! 2 (sub ! 7 refl (whole !)) (tt, typedS (r .after) (isS r w is) .1 .1 .1 .1 .1 .1 .1 .0)) $  -- late
+        assigns ! (of-opd ! (load ! (from ! (fld ! refl (stop !))) (look-in ! 26 (sub ! 8 refl (whole !))))) (from ! (hop ! (look ! 36 refl) (fld ! refl (stop !)))) (store-in ! 2 (sub ! 8 refl (whole !)) (tt, typedS (r .after) (isS r w is) .1 .1 .1 .1 .1 .1 .1 .1 .0)) $  -- missing
+        assigns ! (of-opd ! (load ! (from ! (fld ! refl (stop !))) (look-in ! 28 (sub ! 0 refl (whole !))))) (from ! (stop !)) (init ! 38 refl (LL.lawful Aₜ.the-type Aₗ.the-laws 𝓤 H A W .typed (r .answer) _ (isA r w is) .0)) $
         -- the borrow is closed at the new record
         drop ! $ owned ! Sₜ.the-row (Is Sₜ.the-row) (LL.makes Sₜ.the-type Sₗ.the-plain 𝓤 H A) (r .after) _ (isS r w is) $ move ! (2 ∷ 0 ∷ 3 ∷ 4 ∷ 5 ∷ []) $ closes ! tt Sₜ.the-row (r .after) (valS (r .after) ∷ []) b o $
-        returns ! (look ! 30 refl) $ forget ! 6 refl $ forget ! 8 refl $ forget ! 10 refl $ forget ! 12 refl $ forget ! 14 refl $ forget ! 16 refl $ forget ! 18 refl $ forget ! 20 refl $ forget ! 22 refl $ forget ! 24 refl $ forget ! 26 refl $ forget ! 28 refl $ forget ! 30 refl $
-        move ! (30 ∷ 31 ∷ []) $ free1 ! $ move ! (28 ∷ 29 ∷ []) $ free1 ! $ move ! (26 ∷ 27 ∷ []) $ free1 ! $ move ! (24 ∷ 25 ∷ []) $ free1 ! $ move ! (22 ∷ 23 ∷ []) $ free1 ! $ move ! (20 ∷ 21 ∷ []) $ free1 ! $ move ! (18 ∷ 19 ∷ []) $ free1 ! $ move ! (16 ∷ 17 ∷ []) $ free1 ! $ move ! (14 ∷ 15 ∷ []) $ free1 ! $ move ! (12 ∷ 13 ∷ []) $ free1 ! $ move ! (10 ∷ 11 ∷ []) $ free1 ! $ move ! (8 ∷ 9 ∷ []) $ free1 ! $ move ! (6 ∷ 7 ∷ []) $ free1 ! $ free0 ! $
-        keep ! (0 ∷ 1 ∷ 2 ∷ 3 ∷ 4 ∷ []) $ by ! (exits r w is e))))))))))))))))))))
+        returns ! (look ! 36 refl) $ forget ! 6 refl $ forget ! 8 refl $ forget ! 10 refl $ forget ! 12 refl $ forget ! 14 refl $ forget ! 16 refl $ forget ! 18 refl $ forget ! 20 refl $ forget ! 22 refl $ forget ! 24 refl $ forget ! 26 refl $ forget ! 28 refl $ forget ! 30 refl $ forget ! 32 refl $ forget ! 34 refl $ forget ! 36 refl $
+        move ! (36 ∷ 37 ∷ []) $ free1 ! $ move ! (34 ∷ 35 ∷ []) $ free1 ! $ move ! (32 ∷ 33 ∷ []) $ free1 ! $ move ! (30 ∷ 31 ∷ []) $ free1 ! $ move ! (28 ∷ 29 ∷ []) $ free1 ! $ move ! (26 ∷ 27 ∷ []) $ free1 ! $ move ! (24 ∷ 25 ∷ []) $ free1 ! $ move ! (22 ∷ 23 ∷ []) $ free1 ! $ move ! (20 ∷ 21 ∷ []) $ free1 ! $ move ! (18 ∷ 19 ∷ []) $ free1 ! $ move ! (16 ∷ 17 ∷ []) $ free1 ! $ move ! (14 ∷ 15 ∷ []) $ free1 ! $ move ! (12 ∷ 13 ∷ []) $ free1 ! $ move ! (10 ∷ 11 ∷ []) $ free1 ! $ move ! (8 ∷ 9 ∷ []) $ free1 ! $ move ! (6 ∷ 7 ∷ []) $ free1 ! $ free0 ! $
+        keep ! (0 ∷ 1 ∷ 2 ∷ 3 ∷ 4 ∷ []) $ by ! (exits r w is e)))))))))))))))))))))))
 
 module _ {M : Type 1} (𝓤 : URA M) (H : Heap 𝓤) (A : Atoms 𝓤) (W : Given 𝓤 H A) (mem : Memory → SProp 𝓤) (run : Routine → Fun 𝓤) where
   self-walks : (C : Calls 𝓤 H) (Λ : Loops 𝓤 H) → FmC 𝓤 H (W .laws) C → Triple 𝓤 (C #callee) (Callee 𝓤 H A mem run) → Walks 𝓤 H A self.ended stayed (WpFn 𝓤 H C Λ code.function) (self.clauses 𝓤 H A mem run)
