@@ -1,16 +1,16 @@
--- The arrival on a record of numbers: what its two calls answer and leave, and a record of which a number fits no octet.
-use Prim.Native.Nat.{ℕ, _≤_}
+-- The arrival on a record of numbers: what its two calls answer and leave, and a record of which a number fits no field.
+use Prim.Native.Nat.{ℕ, _-_, _^_, _≤_}
 use mathlib.Core.Path.{_≡_, refl, sym, ap, subst, _∙_}
 use mathlib.Core.Bool.{Bool, true, false, not, _||_}
 use mathlib.Core.List.{List, [], _∷_, _++_}
 use native.Mathlib.Nat.{le-refl}
 use native.Mathlib.Omega.{arith}
-use lib.Dec.{ltb, eqb}
+use lib.Dec.{ltb}
 use lib.ListN.{length, drop}
-use borrow.Author.Tests.{ltb-false, le-ltb}
+use borrow.Author.Tests.{ltb-false, le-ltb, eq-eqb, ne-eqb}
 use Rattle.octets.proofs.BoolLaws.{or-false}
-use Rattle.refusals.specs.Refusals.{_orElse_, refuse}
-use Rattle.refusals.proofs.RefusalLaws.{orElse-take, orElse-pass, if-refused, if-taken}
+use Rattle.refusals.specs.Refusals.{_orElse_, ifTaken, refuse}
+use Rattle.refusals.proofs.RefusalLaws.{orElse-take, orElse-pass}
 use Rattle.endpoint.specs.Arrival.{frameDecision, resetOf, arrivalBy, arrivalOf}
 use Rattle.endpoint.specs.Outcome.{outcomeOf}
 use Rattle.playout.specs.Play.{recordBad, refusal14, playRefusal, decision}
@@ -23,43 +23,81 @@ use Rattle.playout.proofs.PlayLaws.{in-range}
 use Rattle.endpoint.proofs.ReadLaws.{heard-behind}
 use Rattle.card.specs.Card.{put, written}
 use Rattle.card.proofs.CardLaws.{sized, copied, left-alone, answered}
-use Rattle.card_arrival.specs.Kept.{arrivalNumbers, recordNumbers, recordOf, recordRefusal, refusedArrival, keptArrival, keptAfter}
+use Rattle.card_arrival.specs.Kept.{arrivalNumbers, recordNumbers, recordOf, recordRefusal, refusedArrival, countUnfit, numbersArrival, keptArrival, keptAfter}
 
-pub six : (n : ℕ) {r : ℕ} → r ≡ recordRefusal n → r ≡ 0 → n ≡ 6
-six n e z = sized 6 n e z
+pub nine-room : (n : ℕ) {r : ℕ} → r ≡ recordRefusal n → r ≡ 0 → 9 ≤ n
+nine-room n e z = subst (λ (k : ℕ). 9 ≤ k) (sym (sized 9 n e z)) (le-refl 9)
 
-pub six-room : (n : ℕ) {r : ℕ} → r ≡ recordRefusal n → r ≡ 0 → 6 ≤ n
-six-room n e z = subst (λ (k : ℕ). 6 ≤ k) (sym (six n e z)) (le-refl 6)
-
-fourteen : (t : Bool) → (refuse t 14 ≡ 0 → ⊥) → 14 ≡ refuse t 14
-fourteen true h = refl
-fourteen false h = absurd (h refl)
-
--- ---- numbers that fit no octet
-
--- each of four numbers that fits
-pub fitting : (b q m n : ℕ) → (ltb 255 b || ltb 255 q || ltb 255 m || ltb 255 n) ≡ false → (b ≤ 255) × (q ≤ 255) × (m ≤ 255) × (n ≤ 255)
-fitting b q m n h =
-    let p = or-false _ _ h in
-    let o = or-false _ _ (p .0) in
-    let l = or-false _ _ (o .0) in
-    (ltb-false 255 b (l .0), ltb-false 255 q (l .1), ltb-false 255 m (o .1), ltb-false 255 n (p .1))
+-- ---- numbers that fit no field
 
 module _ (e : Endpoint) where
-  unfit-bad : (ltb 255 (e .buildout) || ltb 255 (e .rseq) || ltb 255 (e .mlast) || ltb 255 (e .lastnoise)) ≡ true → recordBad e ≡ true
-  unfit-bad h = go (recordBad e) refl where
+  -- an octet, or a count
+  abbrev pub unfit : Bool
+  unfit =
+      ltb 255 (e .buildout) || ltb 255 (e .rseq) || ltb 255 (e .mlast) || ltb 255 (e .lastnoise)
+      || ltb (2 ^ 32 - 1) (e .scheduled) || ltb (2 ^ 32 - 1) (e .late) || ltb (2 ^ 32 - 1) (e .missing)
+
+  pub record Fits : Type 0 where
+    pub buildout-fits : e .buildout ≤ 255
+    pub rseq-fits : e .rseq ≤ 255
+    pub mlast-fits : e .mlast ≤ 255
+    pub noise-fits : e .lastnoise ≤ 255
+    pub scheduled-fits : e .scheduled ≤ 2 ^ 32 - 1
+    pub late-fits : e .late ≤ 2 ^ 32 - 1
+    pub missing-fits : e .missing ≤ 2 ^ 32 - 1
+
+  pub fitting : unfit ≡ false → Fits
+  fitting h =
+      let p6 = or-false _ _ h in
+      let p5 = or-false _ _ (p6 .0) in
+      let p4 = or-false _ _ (p5 .0) in
+      let p3 = or-false _ _ (p4 .0) in
+      let p2 = or-false _ _ (p3 .0) in
+      let p1 = or-false _ _ (p2 .0) in
+      record {
+        buildout-fits = ltb-false _ _ (p1 .0);
+        rseq-fits = ltb-false _ _ (p1 .1);
+        mlast-fits = ltb-false _ _ (p2 .1);
+        noise-fits = ltb-false _ _ (p3 .1);
+        scheduled-fits = ltb-false _ _ (p4 .1);
+        late-fits = ltb-false _ _ (p5 .1);
+        missing-fits = ltb-false _ _ (p6 .1);
+      }
+
+  -- so where no count is unfit, a number is that 14 refuses anyway
+  unfit-bad : countUnfit e ≡ false → unfit ≡ true → recordBad e ≡ true
+  unfit-bad counts h = go (recordBad e) refl where
     go : (b : Bool) → recordBad e ≡ b → b ≡ true
     go true k = refl
     go false k =
         let z : refusal14 e ≡ 0 = rw k in
         let p = in-range e z in
-        sym (simp (le-ltb 255 (e .buildout) (omega (arith, p .buildout-low)), le-ltb 255 (e .rseq) (omega (arith, p .rseq-low)), le-ltb 255 (e .mlast) (omega (arith, p .mlast-low)), le-ltb 255 (e .lastnoise) (omega (arith, p .noise-low)))) ∙ h
+        let s : Bool = ltb (2 ^ 32 - 1) (e .scheduled) in
+        let l : Bool = ltb (2 ^ 32 - 1) (e .late) in
+        let q = or-false (s || l) (ltb (2 ^ 32 - 1) (e .missing)) counts in
+        let o = or-false s l (q .0) in
+        sym (simp (le-ltb 255 (e .buildout) (omega (arith, p .buildout-low)), le-ltb 255 (e .rseq) (omega (arith, p .rseq-low)), le-ltb 255 (e .mlast) (omega (arith, p .mlast-low)), le-ltb 255 (e .lastnoise) (omega (arith, p .noise-low)), o .0, o .1, q .1)) ∙ h
 
-  -- a record out of range is refused 14 whatever it holds, and handed back
-  pub unfit-is : (f : List ℕ) (clock : ℕ) → (ltb 255 (e .buildout) || ltb 255 (e .rseq) || ltb 255 (e .mlast) || ltb 255 (e .lastnoise)) ≡ true
-      → arrivalOf e f clock ≡ record { answer = refusedArrival 14; after = e }
-  unfolding arrivalOf arrivalBy frameDecision decision playRefusal resetOf heardOf
-  unfit-is f clock h = rw (unfit-bad h)
+  module _ (f : List ℕ) (clock : ℕ) where
+    -- a record out of range is refused 14 whatever it holds, and handed back
+    bad-is : recordBad e ≡ true → arrivalOf e f clock ≡ record { answer = refusedArrival 14; after = e }
+    unfolding arrivalOf arrivalBy frameDecision decision playRefusal resetOf heardOf
+    bad-is h = rw h
+
+    pub unfit-is : unfit ≡ true → numbersArrival e f clock ≡ record { answer = refusedArrival 14; after = e }
+    unfolding numbersArrival
+    unfit-is h = go (countUnfit e) refl where
+      go : (b : Bool) → countUnfit e ≡ b
+          → ifTaken (refuse b 14) (arrivalOf e f clock) (record { answer = refusedArrival 14; after = e }) ≡ record { answer = refusedArrival 14; after = e }
+      go true k = refl
+      go false k = bad-is (unfit-bad k h)
+
+    -- where all fit, it is the arrival itself
+    pub fitting-is : unfit ≡ false → numbersArrival e f clock ≡ arrivalOf e f clock
+    unfolding numbersArrival
+    fitting-is h =
+        let p = fitting h in
+        simp (le-ltb (2 ^ 32 - 1) (e .scheduled) (p .scheduled-fits), le-ltb (2 ^ 32 - 1) (e .late) (p .late-fits), le-ltb (2 ^ 32 - 1) (e .missing) (p .missing-fits))
 
 -- ---- what is heard, put before what stood behind
 
@@ -73,37 +111,31 @@ put-none f slot x e = e
 -- ---- an arrival by its outcome: the number, the record, the answer and the samples
 
 module _ (e : Endpoint) (f : List ℕ) (clock : ℕ) (after answer samples : List ℕ) where
-  abbrev Arrives : ℕ → List ℕ → List ℕ → List ℕ → Type 0
-  Arrives k z x y =
-      (k ≡ arrivalOf e f clock .answer .refusal)
-      × ((z ≡ put (recordNumbers (arrivalOf e f clock .after)) after)
-      × ((x ≡ put (arrivalNumbers (arrivalOf e f clock .answer)) answer) × (y ≡ put (arrivalOf e f clock .answer .samples) samples)))
+  abbrev Arrives : Arrived → ℕ → List ℕ → List ℕ → List ℕ → Type 0
+  Arrives v k z x y =
+      (k ≡ v .answer .refusal)
+      × ((z ≡ put (recordNumbers (v .after)) after) × ((x ≡ put (arrivalNumbers (v .answer)) answer) × (y ≡ put (v .answer .samples) samples)))
 
-  pub by-unfit : (ltb 255 (e .buildout) || ltb 255 (e .rseq) || ltb 255 (e .mlast) || ltb 255 (e .lastnoise)) ≡ true → (k : ℕ) (z x y : List ℕ)
-      → k ≡ 14 → z ≡ put (recordNumbers e) after → x ≡ put (arrivalNumbers (refusedArrival 14)) answer → y ≡ put (refusedArrival 14 .samples) samples → Arrives k z x y
-  by-unfit h k z x y n r p q =
-      let u = sym (unfit-is e f clock h) in (
-        n ∙ ap (λ (a : Arrived). a .answer .refusal) u,
+  pub by-unfit : unfit e ≡ true → (k : ℕ) (z x y : List ℕ)
+      → k ≡ 14 → z ≡ put (recordNumbers e) after → x ≡ put (arrivalNumbers (refusedArrival 14)) answer → y ≡ put (refusedArrival 14 .samples) samples
+      → Arrives (numbersArrival e f clock) k z x y
+  by-unfit h k z x y n r p q = subst (λ (v : Arrived). Arrives v k z x y) (sym (unfit-is e f clock h)) (n, (r, (p, q)))
+
+  pub by-outcome : unfit e ≡ false → (o : Outcome) → o ≡ outcomeOf (arrivalOf e f clock) → (numbers z x y : List ℕ)
+      → numbers ≡ recordNumbers (o .after) → z ≡ put numbers after → x ≡ put (o .due ∷ o .reset ∷ o .s ∷ o .dropped ∷ o .width ∷ []) answer → y ≡ heardOf (o .refusal) f .samples ++ drop 128 samples
+      → Arrives (numbersArrival e f clock) (o .refusal) z x y
+  unfolding arrivalOf arrivalBy
+  by-outcome h o w numbers z x y m r p q =
+      subst (λ (v : Arrived). Arrives v (o .refusal) z x y) (sym (fitting-is e f clock h)) (
+        ap (λ (v : Outcome). v .refusal) w,
         (
-          r ∙ ap (λ (a : Arrived). put (recordNumbers (a .after)) after) u,
-          (p ∙ ap (λ (a : Arrived). put (arrivalNumbers (a .answer)) answer) u, q ∙ ap (λ (a : Arrived). put (a .answer .samples) samples) u),
+          r ∙ ap (λ (l : List ℕ). put l after) (m ∙ ap (λ (v : Outcome). recordNumbers (v .after)) w),
+          (
+            p ∙ ap (λ (v : Outcome). put (v .due ∷ v .reset ∷ v .s ∷ v .dropped ∷ v .width ∷ []) answer) w,
+            put-heard (o .refusal) f samples y q ∙ ap (λ (v : Outcome). put (heardOf (v .refusal) f .samples) samples) w,
+          ),
         ),
       )
-
-  pub by-outcome : (o : Outcome) → o ≡ outcomeOf (arrivalOf e f clock) → (numbers z x y : List ℕ)
-      → numbers ≡ recordNumbers (o .after) → z ≡ put numbers after → x ≡ put (o .due ∷ o .reset ∷ o .s ∷ o .dropped ∷ o .width ∷ []) answer → y ≡ heardOf (o .refusal) f .samples ++ drop 128 samples
-      → Arrives (o .refusal) z x y
-  unfolding arrivalOf arrivalBy
-  by-outcome o w numbers z x y m r p q = (
-    ap (λ (v : Outcome). v .refusal) w,
-    (
-      r ∙ ap (λ (l : List ℕ). put l after) (m ∙ ap (λ (v : Outcome). recordNumbers (v .after)) w),
-      (
-        p ∙ ap (λ (v : Outcome). put (v .due ∷ v .reset ∷ v .s ∷ v .dropped ∷ v .width ∷ []) answer) w,
-        put-heard (o .refusal) f samples y q ∙ ap (λ (v : Outcome). put (heardOf (v .refusal) f .samples) samples) w,
-      ),
-    ),
-  )
 
 -- ---- the two calls: refused by this form, on a slice that is no record, and done
 
@@ -121,7 +153,7 @@ module _ (flat r : ℕ) (kept f : List ℕ) (clock : ℕ) (answer samples slot :
     (left-alone flat r _ answer e h, (left-alone flat r _ samples e h, left-alone (flat orElse recordRefusal (length kept)) r _ slot (orElse-take flat _ r e h) h)),
   )
 
-  module _ (z : r ≡ 0) (m : ℕ) (em : m ≡ recordRefusal (length kept)) where
+  module _ (z : r ≡ 0) where
     by : (a : Arrival) → a ≡ keptArrival kept f clock → (k : ℕ) (x y : List ℕ) → k ≡ a .refusal → x ≡ put (arrivalNumbers a) answer → y ≡ put (a .samples) samples
         → (k ≡ flat orElse keptArrival kept f clock .refusal)
         × ((x ≡ written flat (arrivalNumbers (keptArrival kept f clock)) answer) × (y ≡ written flat (keptArrival kept f clock .samples) samples))
@@ -133,24 +165,19 @@ module _ (flat r : ℕ) (kept f : List ℕ) (clock : ℕ) (answer samples slot :
       ),
     )
 
-    none : (m ≡ 0 → ⊥) → (n : ℕ) → n ≡ recordRefusal (length kept) → refusedArrival n ≡ keptArrival kept f clock
-    unfolding keptArrival
-    none h n en =
-        ap refusedArrival en
-        ∙ sym (if-refused (recordRefusal (length kept)) (arrivalOf (recordOf kept) f clock .answer) (refusedArrival (recordRefusal (length kept))) (λ v. h (em ∙ v)))
-
-    pub on-no-record : (m ≡ 0 → ⊥) → (k : ℕ) (x y : List ℕ) → k ≡ 14 → x ≡ put (arrivalNumbers (refusedArrival 14)) answer → y ≡ put (refusedArrival 14 .samples) samples
+    pub on-no-record : (length kept ≡ 9 → ⊥) → (k : ℕ) (x y : List ℕ) → k ≡ 14 → x ≡ put (arrivalNumbers (refusedArrival 14)) answer → y ≡ put (refusedArrival 14 .samples) samples
         → Left k x y slot
+    unfolding keptArrival
     on-no-record h k x y n p q =
-        let u = none h 14 (fourteen (not (eqb (length kept) 6)) (λ v. h (em ∙ v))) in
-        let b = by (refusedArrival 14) u k x y n p q in
-        (b .0, (b .1 .0, (b .1 .1, left-alone (flat orElse recordRefusal (length kept)) m _ slot (orElse-pass flat _ r m e z em) h)))
+        let none : 14 ≡ recordRefusal (length kept) = ap (λ (t : Bool). refuse (not t) 14) (sym (ne-eqb (length kept) 9 h)) in
+        let b = by (refusedArrival 14) (ap (λ (m : ℕ). ifTaken m (numbersArrival (recordOf kept) f clock .answer) (refusedArrival m)) none) k x y n p q in
+        (b .0, (b .1 .0, (b .1 .1, left-alone (flat orElse recordRefusal (length kept)) 14 _ slot (orElse-pass flat _ r 14 e z none) (λ v. omega arith))))
 
-    pub on-record : m ≡ 0 → (k : ℕ) (w x y : List ℕ) → k ≡ arrivalOf (recordOf kept) f clock .answer .refusal
-        → w ≡ put (recordNumbers (arrivalOf (recordOf kept) f clock .after)) slot → x ≡ put (arrivalNumbers (arrivalOf (recordOf kept) f clock .answer)) answer
-        → y ≡ put (arrivalOf (recordOf kept) f clock .answer .samples) samples → Left k x y w
+    pub on-record : length kept ≡ 9 → (k : ℕ) (w x y : List ℕ) → k ≡ numbersArrival (recordOf kept) f clock .answer .refusal
+        → w ≡ put (recordNumbers (numbersArrival (recordOf kept) f clock .after)) slot → x ≡ put (arrivalNumbers (numbersArrival (recordOf kept) f clock .answer)) answer
+        → y ≡ put (numbersArrival (recordOf kept) f clock .answer .samples) samples → Left k x y w
     unfolding keptArrival keptAfter
-    on-record v k w x y n q p s =
-        let u = sym (if-taken (recordRefusal (length kept)) (arrivalOf (recordOf kept) f clock .answer) (refusedArrival (recordRefusal (length kept))) (sym em ∙ v)) in
-        let b = by (arrivalOf (recordOf kept) f clock .answer) u k x y n p s in
-        (b .0, (b .1 .0, (b .1 .1, answered (flat orElse recordRefusal (length kept)) m _ slot (orElse-pass flat _ r m e z em) v w q)))
+    on-record h k w x y n q p s =
+        let nine : 0 ≡ recordRefusal (length kept) = ap (λ (t : Bool). refuse (not t) 14) (sym (eq-eqb (length kept) 9 h)) in
+        let b = by (numbersArrival (recordOf kept) f clock .answer) (ap (λ (m : ℕ). ifTaken m (numbersArrival (recordOf kept) f clock .answer) (refusedArrival m)) nine) k x y n p s in
+        (b .0, (b .1 .0, (b .1 .1, answered (flat orElse recordRefusal (length kept)) 0 _ slot (orElse-pass flat _ r 0 e z nine) refl w q)))

@@ -1,12 +1,11 @@
-// The endpoint's record for a host in C or Rust, as six numbers: fresh, and moved on by each frame that comes.
+// The endpoint's record for a host in C or Rust, as nine numbers: fresh, and moved on by each frame that comes.
 ghost use mathlib.Core.Path.{_≡_};
 ghost use Prim.Native.Nat.{_≤_};
 ghost use lib.ListN.{length};
 ghost use Rattle.refusals.specs.Refusals.{_orElse_};
-ghost use Rattle.endpoint.specs.Arrival.{arrivalOf};
 ghost use Rattle.playout.specs.Play.{freshRecord};
 ghost use Rattle.card.specs.Card.{short, shortTwo, put as putBefore, written};
-ghost use Rattle.card_arrival.specs.Kept.{arrivalNumbers, recordNumbers, recordWith, recordRefusal, refusedArrival, keptArrival, keptAfter};
+ghost use Rattle.card_arrival.specs.Kept.{arrivalNumbers, recordNumbers, recordWith, recordRefusal, refusedArrival, numbersArrival, keptArrival, keptAfter};
 use card::put;
 use card::short_two;
 use playout::Endpoint;
@@ -14,13 +13,10 @@ use refusals::or_else;
 use refusals::refusal_16;
 use refusals::refuse;
 
-fn record_refusal(n: usize) -> u8
-    ensures { λ r. ⌜ r ≡ recordRefusal n ⌝ }
-{
-    refuse(n != 6, 14)
-}
+// The greatest number that fits a count.
+const COUNT_LIMIT: u64 = 4294967295;
 
-fn record_numbers(e: Endpoint) -> [u64; 6]
+fn record_numbers(e: Endpoint) -> [u64; 9]
     ensures { λ r. ⌜ r ≡ recordNumbers e ⌝ }
 {
     [
@@ -30,6 +26,9 @@ fn record_numbers(e: Endpoint) -> [u64; 6]
         e.end,
         e.mlast as u64,
         e.lastnoise as u64,
+        e.scheduled as u64,
+        e.late as u64,
+        e.missing as u64,
     ]
 }
 
@@ -39,7 +38,7 @@ pub extern "C" fn pelgrant_fresh(buildout: u8, kept: &mut [u64]) -> u8
     ensures number { λ r. ⌜ r ≡ recordRefusal (length (now (kept .entry))) ⌝ }
     ensures kept { λ _. ⌜ now (kept .exit) ≡ written (recordRefusal (length (now (kept .entry)))) (recordNumbers (freshRecord buildout)) (now (kept .entry)) ⌝ }
 {
-    let flat = record_refusal(kept.len());
+    let flat = refuse(kept.len() != 9, 14);
     if flat != 0 {
         return flat;
     }
@@ -61,8 +60,8 @@ fn no_record(frame: &[u8], answer: &mut [u64], samples: &mut [u8]) -> u8
     14
 }
 
-// The arrival on the six numbers of a record, which come by themselves so that none is read back from memory in another
-// width. A number that fits no octet of the record is out of every range; the numbers are then left as they came.
+// The arrival on the nine numbers of a record, which come by themselves so that none is read back from memory in another
+// width. A number that fits no field of the record is 14, and the numbers are then left as they came.
 // Both exported arrivals refuse shorter slices first.
 fn arrival(
     buildout: u64,
@@ -71,21 +70,40 @@ fn arrival(
     end: u64,
     mlast: u64,
     lastnoise: u64,
+    scheduled: u64,
+    late: u64,
+    missing: u64,
     frame: &[u8],
     clock: u64,
     after: &mut [u64],
     answer: &mut [u64],
     samples: &mut [u8],
 ) -> u8
-    requires { ⌜ (6 ≤ length (now after)) × (5 ≤ length (now answer)) × (128 ≤ length (now samples)) ⌝ }
-    ensures number { λ r. ⌜ r ≡ arrivalOf (recordWith buildout rseq lastclock end mlast lastnoise) (now (frame .entry)) clock .answer .refusal ⌝ }
-    ensures after { λ _. ⌜ now (after .exit) ≡ putBefore (recordNumbers (arrivalOf (recordWith buildout rseq lastclock end mlast lastnoise) (now (frame .entry)) clock .after)) (now (after .entry)) ⌝ }
-    ensures answer { λ _. ⌜ now (answer .exit) ≡ putBefore (arrivalNumbers (arrivalOf (recordWith buildout rseq lastclock end mlast lastnoise) (now (frame .entry)) clock .answer)) (now (answer .entry)) ⌝ }
-    ensures samples { λ _. ⌜ now (samples .exit) ≡ putBefore (arrivalOf (recordWith buildout rseq lastclock end mlast lastnoise) (now (frame .entry)) clock .answer .samples) (now (samples .entry)) ⌝ }
+    requires { ⌜ (9 ≤ length (now after)) × (5 ≤ length (now answer)) × (128 ≤ length (now samples)) ⌝ }
+    ensures number { λ r. ⌜ r ≡ numbersArrival (recordWith buildout rseq lastclock end mlast lastnoise scheduled late missing) (now (frame .entry)) clock .answer .refusal ⌝ }
+    ensures after { λ _. ⌜ now (after .exit) ≡ putBefore (recordNumbers (numbersArrival (recordWith buildout rseq lastclock end mlast lastnoise scheduled late missing) (now (frame .entry)) clock .after)) (now (after .entry)) ⌝ }
+    ensures answer { λ _. ⌜ now (answer .exit) ≡ putBefore (arrivalNumbers (numbersArrival (recordWith buildout rseq lastclock end mlast lastnoise scheduled late missing) (now (frame .entry)) clock .answer)) (now (answer .entry)) ⌝ }
+    ensures samples { λ _. ⌜ now (samples .exit) ≡ putBefore (numbersArrival (recordWith buildout rseq lastclock end mlast lastnoise scheduled late missing) (now (frame .entry)) clock .answer .samples) (now (samples .entry)) ⌝ }
 {
-    let unfit = (255 < buildout) | (255 < rseq) | (255 < mlast) | (255 < lastnoise);
+    let unfit = (255 < buildout)
+        | (255 < rseq)
+        | (255 < mlast)
+        | (255 < lastnoise)
+        | (COUNT_LIMIT < scheduled)
+        | (COUNT_LIMIT < late)
+        | (COUNT_LIMIT < missing);
     if unfit {
-        let came = [buildout, rseq, lastclock, end, mlast, lastnoise];
+        let came = [
+            buildout,
+            rseq,
+            lastclock,
+            end,
+            mlast,
+            lastnoise,
+            scheduled,
+            late,
+            missing,
+        ];
         put(&came, after);
         return no_record(frame, answer, samples);
     }
@@ -96,6 +114,9 @@ fn arrival(
         end: end,
         mlast: mlast as u8,
         lastnoise: lastnoise as u8,
+        scheduled: scheduled as u32,
+        late: late as u32,
+        missing: missing as u32,
     };
     let o = endpoint::judge(before, &*frame, clock);
     let numbers = [
@@ -131,8 +152,7 @@ pub extern "C" fn pelgrant_arrive(
     if flat != 0 {
         return flat;
     }
-    let size = record_refusal(kept.len());
-    if size != 0 {
+    if kept.len() != 9 {
         return no_record(frame, answer, samples);
     }
     arrival(
@@ -142,6 +162,9 @@ pub extern "C" fn pelgrant_arrive(
         kept[3],
         kept[4],
         kept[5],
+        kept[6],
+        kept[7],
+        kept[8],
         frame,
         clock,
         kept,
@@ -160,18 +183,17 @@ pub extern "C" fn pelgrant_arrive_value(
     answer: &mut [u64],
     samples: &mut [u8],
 ) -> u8
-    ensures number { λ r. ⌜ r ≡ (short 6 (now (after .entry)) orElse shortTwo 5 (now (answer .entry)) 128 (now (samples .entry))) orElse keptArrival (now (kept .entry)) (now (frame .entry)) clock .refusal ⌝ }
-    ensures answer { λ _. ⌜ now (answer .exit) ≡ written (short 6 (now (after .entry)) orElse shortTwo 5 (now (answer .entry)) 128 (now (samples .entry))) (arrivalNumbers (keptArrival (now (kept .entry)) (now (frame .entry)) clock)) (now (answer .entry)) ⌝ }
-    ensures samples { λ _. ⌜ now (samples .exit) ≡ written (short 6 (now (after .entry)) orElse shortTwo 5 (now (answer .entry)) 128 (now (samples .entry))) (keptArrival (now (kept .entry)) (now (frame .entry)) clock .samples) (now (samples .entry)) ⌝ }
-    ensures after { λ _. ⌜ now (after .exit) ≡ written ((short 6 (now (after .entry)) orElse shortTwo 5 (now (answer .entry)) 128 (now (samples .entry))) orElse recordRefusal (length (now (kept .entry)))) (keptAfter (now (kept .entry)) (now (frame .entry)) clock) (now (after .entry)) ⌝ }
+    ensures number { λ r. ⌜ r ≡ (short 9 (now (after .entry)) orElse shortTwo 5 (now (answer .entry)) 128 (now (samples .entry))) orElse keptArrival (now (kept .entry)) (now (frame .entry)) clock .refusal ⌝ }
+    ensures answer { λ _. ⌜ now (answer .exit) ≡ written (short 9 (now (after .entry)) orElse shortTwo 5 (now (answer .entry)) 128 (now (samples .entry))) (arrivalNumbers (keptArrival (now (kept .entry)) (now (frame .entry)) clock)) (now (answer .entry)) ⌝ }
+    ensures samples { λ _. ⌜ now (samples .exit) ≡ written (short 9 (now (after .entry)) orElse shortTwo 5 (now (answer .entry)) 128 (now (samples .entry))) (keptArrival (now (kept .entry)) (now (frame .entry)) clock .samples) (now (samples .entry)) ⌝ }
+    ensures after { λ _. ⌜ now (after .exit) ≡ written ((short 9 (now (after .entry)) orElse shortTwo 5 (now (answer .entry)) 128 (now (samples .entry))) orElse recordRefusal (length (now (kept .entry)))) (keptAfter (now (kept .entry)) (now (frame .entry)) clock) (now (after .entry)) ⌝ }
 {
     let others = short_two(answer.len(), 5, samples.len(), 128);
-    let flat = or_else(refusal_16(after.len(), 6), others);
+    let flat = or_else(refusal_16(after.len(), 9), others);
     if flat != 0 {
         return flat;
     }
-    let size = record_refusal(kept.len());
-    if size != 0 {
+    if kept.len() != 9 {
         return no_record(frame, answer, samples);
     }
     arrival(
@@ -181,6 +203,9 @@ pub extern "C" fn pelgrant_arrive_value(
         kept[3],
         kept[4],
         kept[5],
+        kept[6],
+        kept[7],
+        kept[8],
         frame,
         clock,
         after,

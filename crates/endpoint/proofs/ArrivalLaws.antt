@@ -151,9 +151,9 @@ module _ (e : Endpoint) (f : List ℕ) (clock : ℕ) where
   arrival-counts =
       by-decision e clock (voiceRefusal f) (stamp f) (sequence f) (moreBit f) (noise f)
       (λ d.
-        (d .after .scheduled ≡ cond (eqb (d .refusal) 0) (stopped (e .scheduled + 1)) (e .scheduled))
-        × (d .after .late ≡ lateAfter (d .refusal) (e .late))
-        × (d .after .missing ≡ ifTaken (d .refusal) (stopped (e .missing + missingBetween (e .rseq) (sequence f))) (e .missing)))
+      (d .after .scheduled ≡ cond (eqb (d .refusal) 0) (stopped (e .scheduled + 1)) (e .scheduled))
+      × (d .after .late ≡ lateAfter (d .refusal) (e .late))
+      × (d .after .missing ≡ ifTaken (d .refusal) (stopped (e .missing + missingBetween (e .rseq) (sequence f))) (e .missing)))
       (λ z. (refl, refl, refl))
       (λ k z. let h = ne-eqb (suc k) 0 (λ w. omega arith) in (rw h, refl, refl))
 

@@ -2,9 +2,13 @@
 use native.Mathlib.Omega.{arith}
 use Rattle.endpoint.proofs.ArrivalLaws.{outcome-readable}
 use Rattle.card_arrival.specs.Kept.{recordWith}
-use Rattle.card_arrival.proofs.KeptLaws.{fitting, by-unfit, by-outcome}
+use Rattle.card_arrival.proofs.KeptLaws.{Fits, fitting, by-unfit, by-outcome}
 use Rattle.card_arrival.proofs.arrival.Statement.{statement}
 use Rattle.card_arrival.proofs.arrival.Tie as tie
+
+-- each number fits its field, where none was found that does not
+fits : (c : tie.Else1) → let a = c .before .before .before .before .before .args in Fits (recordWith (a .buildout) (a .rseq) (a .lastclock) (a .end) (a .mlast) (a .lastnoise) (a .scheduled) (a .late) (a .missing))
+fits c = let a = c .before .before .before .before .before .args in fitting (recordWith (a .buildout) (a .rseq) (a .lastclock) (a .end) (a .mlast) (a .lastnoise) (a .scheduled) (a .late) (a .missing)) (c .if1 .left)
 
 slice-aggregate-put : tie.Need-slice-aggregate-put
 slice-aggregate-put c = omega arith
@@ -29,35 +33,44 @@ returns c =
     let n = c .before .before .before .before .no-record in
     let p = c .before .before .before .before .before .before .before .before .before .put in
     let a = c .before .before .before .before .before .before .before .before .before .before .before .before .before .before .before .before .before .args in
-    by-unfit (recordWith (a .buildout) (a .rseq) (a .lastclock) (a .end) (a .mlast) (a .lastnoise)) (a .frame .now) (a .clock) (a .after .now) (a .answer .now) (a .samples .now) (c .before .before .before .before .before .before .before .before .before .before .before .before .if1 .taken)
+    by-unfit (recordWith (a .buildout) (a .rseq) (a .lastclock) (a .end) (a .mlast) (a .lastnoise) (a .scheduled) (a .late) (a .missing)) (a .frame .now) (a .clock) (a .after .now) (a .answer .now) (a .samples .now) (c .before .before .before .before .before .before .before .before .before .before .before .before .if1 .taken)
     (n .result) (p .last .1 .0) (n .last .1 .0) (n .last .1 .1 .0) (n .ensures .0) (p .ensures) (n .ensures .1 .0) (n .ensures .1 .1)
 
-cast-t34 : tie.Need-cast-t34
-cast-t34 c = let a = c .before .before .before .before .before .args in omega (arith, fitting (a .buildout) (a .rseq) (a .mlast) (a .lastnoise) (c .if1 .left) .0)
+cast-t43 : tie.Need-cast-t43
+cast-t43 c = omega (arith, fits c .buildout-fits)
 
-cast-t35 : tie.Need-cast-t35
-cast-t35 c = let a = c .before .before .before .before .before .args in omega (arith, fitting (a .buildout) (a .rseq) (a .mlast) (a .lastnoise) (c .if1 .left) .1)
+cast-t44 : tie.Need-cast-t44
+cast-t44 c = omega (arith, fits c .rseq-fits)
 
-cast-t36 : tie.Need-cast-t36
-cast-t36 c = let a = c .before .before .before .before .before .args in omega (arith, fitting (a .buildout) (a .rseq) (a .mlast) (a .lastnoise) (c .if1 .left) .2)
+cast-t45 : tie.Need-cast-t45
+cast-t45 c = omega (arith, fits c .mlast-fits)
 
-cast-t37 : tie.Need-cast-t37
-cast-t37 c = let a = c .before .before .before .before .before .args in omega (arith, fitting (a .buildout) (a .rseq) (a .mlast) (a .lastnoise) (c .if1 .left) .3)
+cast-t46 : tie.Need-cast-t46
+cast-t46 c = omega (arith, fits c .noise-fits)
+
+cast-t47 : tie.Need-cast-t47
+cast-t47 c = omega (arith, fits c .scheduled-fits)
+
+cast-t48 : tie.Need-cast-t48
+cast-t48 c = omega (arith, fits c .late-fits)
+
+cast-t49 : tie.Need-cast-t49
+cast-t49 c = omega (arith, fits c .missing-fits)
 
 judge-requires : tie.Need-judge-requires
 judge-requires c κs = tt
 
-cast-t40 : tie.Need-cast-t40
-cast-t40 c = omega arith
+cast-t52 : tie.Need-cast-t52
+cast-t52 c = omega arith
 
-cast-t41 : tie.Need-cast-t41
-cast-t41 c = omega arith
+cast-t53 : tie.Need-cast-t53
+cast-t53 c = omega arith
 
-cast-t42 : tie.Need-cast-t42
-cast-t42 c = omega arith
+cast-t54 : tie.Need-cast-t54
+cast-t54 c = omega arith
 
-cast-t43 : tie.Need-cast-t43
-cast-t43 c = omega arith
+cast-t55 : tie.Need-cast-t55
+cast-t55 c = omega arith
 
 slice-aggregate-put-2 : tie.Need-slice-aggregate-put-2
 slice-aggregate-put-2 c = omega arith
@@ -79,7 +92,7 @@ hear-into-requires c κs =
     let o = c .before .before .before .before .before .before .before .before .before .before .before .before .before .before .before .before .before in
     let start = o .before .before .before .before .before .before in
     let a = start .args in
-    (λ z. outcome-readable (recordWith (a .buildout) (a .rseq) (a .lastclock) (a .end) (a .mlast) (a .lastnoise)) (a .frame .now) (a .clock) (o .judge .result) (o .judge .ensures) z, start .pre .2)
+    (λ z. outcome-readable (recordWith (a .buildout) (a .rseq) (a .lastclock) (a .end) (a .mlast) (a .lastnoise) (a .scheduled) (a .late) (a .missing)) (a .frame .now) (a .clock) (o .judge .result) (o .judge .ensures) z, start .pre .2)
 
 same-length-4 : tie.Need-same-length-4
 same-length-4 c = omega arith
@@ -98,7 +111,7 @@ returns-2 c =
     let p = c .before .before .before .before .before .before .before .before .before .before .before .before .before .put2 in
     let o = c .before .before .before .before .before .before .before .before .before .before .before .before .before .before .before .before .before .before .before .before in
     let a = o .before .before .before .before .before .before .args in
-    by-outcome (recordWith (a .buildout) (a .rseq) (a .lastclock) (a .end) (a .mlast) (a .lastnoise)) (a .frame .now) (a .clock) (a .after .now) (a .answer .now) (a .samples .now) (o .judge .result) (o .judge .ensures)
+    by-outcome (recordWith (a .buildout) (a .rseq) (a .lastclock) (a .end) (a .mlast) (a .lastnoise) (a .scheduled) (a .late) (a .missing)) (a .frame .now) (a .clock) (a .after .now) (a .answer .now) (a .samples .now) (o .before .if1 .left) (o .judge .result) (o .judge .ensures)
     (m .result) (q .last .1 .0) (p .last .1 .0) (h .last .1 .1 .0) (m .ensures) (q .ensures) (p .ensures) (h .ensures)
 
 pub arrival-spec : {M : Type 1} → statement M
@@ -112,15 +125,18 @@ arrival-spec =
     same-length-2
     same-length-3
     returns
-    cast-t34
-    cast-t35
-    cast-t36
-    cast-t37
-    judge-requires
-    cast-t40
-    cast-t41
-    cast-t42
     cast-t43
+    cast-t44
+    cast-t45
+    cast-t46
+    cast-t47
+    cast-t48
+    cast-t49
+    judge-requires
+    cast-t52
+    cast-t53
+    cast-t54
+    cast-t55
     slice-aggregate-put-2
     put-requires-2
     record-numbers-requires

@@ -3,7 +3,7 @@ use native.Mathlib.Omega.{arith}
 use lib.ListN.{length}
 use Rattle.card.specs.Card.{shortTwo}
 use Rattle.card.proofs.CardLaws.{roomy-two}
-use Rattle.card_arrival.proofs.KeptLaws.{six, six-room, not-arrived, on-no-record, on-record}
+use Rattle.card_arrival.proofs.KeptLaws.{not-arrived, on-no-record, on-record}
 use Rattle.card_arrival.proofs.pelgrant_arrive.Statement.{statement}
 use Rattle.card_arrival.proofs.pelgrant_arrive.Tie as tie
 
@@ -15,13 +15,10 @@ returns c =
     let a = c .before .before .before .before .before .before .args in
     not-arrived (shortTwo 5 (a .answer .now) 128 (a .samples .now)) (c .before .short-two .result) (a .kept .now) (a .frame .now) (a .clock) (a .answer .now) (a .samples .now) (a .kept .now) (c .before .short-two .ensures) (c .if1 .taken)
 
-record-refusal-requires : tie.Need-record-refusal-requires
-record-refusal-requires c κs = tt
-
 no-record-requires : tie.Need-no-record-requires
 no-record-requires c κs =
-    let a = c .before .before .before .before .before .before .before .before .before .before .args in
-    roomy-two (length (a .answer .now)) 5 (length (a .samples .now)) 128 (c .before .before .before .before .before .short-two .ensures) (c .before .before .before .before .if1 .left)
+    let a = c .before .before .before .before .before .before .before .before .before .args in
+    roomy-two (length (a .answer .now)) 5 (length (a .samples .now)) 128 (c .before .before .before .before .short-two .ensures) (c .before .before .before .if1 .left)
 
 same-length : tie.Need-same-length
 same-length c = omega arith
@@ -32,34 +29,42 @@ same-length-2 c = omega arith
 returns-2 : tie.Need-returns-2
 returns-2 c =
     let n = c .before .before .before .before .no-record in
-    let m = c .before .before .before .before .before .before .before .before .record-refusal in
-    let a = c .before .before .before .before .before .before .before .before .before .before .before .before .before .before .before .args in
-    on-no-record (shortTwo 5 (a .answer .now) 128 (a .samples .now)) (c .before .before .before .before .before .before .before .before .before .before .short-two .result) (a .kept .now) (a .frame .now) (a .clock) (a .answer .now) (a .samples .now) (a .kept .now) (c .before .before .before .before .before .before .before .before .before .before .short-two .ensures) (c .before .before .before .before .before .before .before .before .before .if1 .left) (m .result) (m .ensures) (c .before .before .before .before .before .before .before .if2 .taken)
+    let a = c .before .before .before .before .before .before .before .before .before .before .before .before .before .before .args in
+    on-no-record (shortTwo 5 (a .answer .now) 128 (a .samples .now)) (c .before .before .before .before .before .before .before .before .before .short-two .result) (a .kept .now) (a .frame .now) (a .clock) (a .answer .now) (a .samples .now) (a .kept .now) (c .before .before .before .before .before .before .before .before .before .short-two .ensures) (c .before .before .before .before .before .before .before .before .if1 .left) (c .before .before .before .before .before .before .before .if2 .taken)
     (n .result) (n .last .1 .0) (n .last .1 .1 .0) (n .ensures .0) (n .ensures .1 .0) (n .ensures .1 .1)
 
 slice-read-arrival : tie.Need-slice-read-arrival
-slice-read-arrival c = let e = six (length (c .before .before .before .before .before .before .before .before .before .args .kept .now)) (c .before .before .record-refusal .ensures) (c .before .if2 .left) in omega arith
+slice-read-arrival c = omega arith
 
 slice-read-arrival-2 : tie.Need-slice-read-arrival-2
-slice-read-arrival-2 c = let e = six (length (c .before .before .before .before .before .before .before .before .before .before .args .kept .now)) (c .before .before .before .record-refusal .ensures) (c .before .before .if2 .left) in omega arith
+slice-read-arrival-2 c = omega arith
 
 slice-read-arrival-3 : tie.Need-slice-read-arrival-3
-slice-read-arrival-3 c = let e = six (length (c .before .before .before .before .before .before .before .before .before .before .before .args .kept .now)) (c .before .before .before .before .record-refusal .ensures) (c .before .before .before .if2 .left) in omega arith
+slice-read-arrival-3 c = omega arith
 
 slice-read-arrival-4 : tie.Need-slice-read-arrival-4
-slice-read-arrival-4 c = let e = six (length (c .before .before .before .before .before .before .before .before .before .before .before .before .args .kept .now)) (c .before .before .before .before .before .record-refusal .ensures) (c .before .before .before .before .if2 .left) in omega arith
+slice-read-arrival-4 c = omega arith
 
 slice-read-arrival-5 : tie.Need-slice-read-arrival-5
-slice-read-arrival-5 c = let e = six (length (c .before .before .before .before .before .before .before .before .before .before .before .before .before .args .kept .now)) (c .before .before .before .before .before .before .record-refusal .ensures) (c .before .before .before .before .before .if2 .left) in omega arith
+slice-read-arrival-5 c = omega arith
 
 slice-read-arrival-6 : tie.Need-slice-read-arrival-6
-slice-read-arrival-6 c = let e = six (length (c .before .before .before .before .before .before .before .before .before .before .before .before .before .before .args .kept .now)) (c .before .before .before .before .before .before .before .record-refusal .ensures) (c .before .before .before .before .before .before .if2 .left) in omega arith
+slice-read-arrival-6 c = omega arith
+
+slice-read-arrival-7 : tie.Need-slice-read-arrival-7
+slice-read-arrival-7 c = omega arith
+
+slice-read-arrival-8 : tie.Need-slice-read-arrival-8
+slice-read-arrival-8 c = omega arith
+
+slice-read-arrival-9 : tie.Need-slice-read-arrival-9
+slice-read-arrival-9 c = omega arith
 
 arrival-requires : tie.Need-arrival-requires
 arrival-requires c κs =
-    let a = c .before .before .before .before .before .before .before .before .before .before .before .before .before .before .before .before .before .args in
-    let r = roomy-two (length (a .answer .now)) 5 (length (a .samples .now)) 128 (c .before .before .before .before .before .before .before .before .before .before .before .before .short-two .ensures) (c .before .before .before .before .before .before .before .before .before .before .before .if1 .left) in
-    (six-room (length (a .kept .now)) (c .before .before .before .before .before .before .before .before .before .before .record-refusal .ensures) (c .before .before .before .before .before .before .before .before .before .if2 .left), r .0, r .1)
+    let a = c .before .before .before .before .before .before .before .before .before .before .before .before .before .before .before .before .before .before .before .args in
+    let r = roomy-two (length (a .answer .now)) 5 (length (a .samples .now)) 128 (c .before .before .before .before .before .before .before .before .before .before .before .before .before .before .short-two .ensures) (c .before .before .before .before .before .before .before .before .before .before .before .before .before .if1 .left) in
+    (omega (arith, c .before .before .before .before .before .before .before .before .before .before .before .before .if2 .left), r .0, r .1)
 
 same-length-3 : tie.Need-same-length-3
 same-length-3 c = omega arith
@@ -73,10 +78,9 @@ same-length-5 c = omega arith
 returns-3 : tie.Need-returns-3
 returns-3 c =
     let n = c .before .before .before .before .before .before .arrival in
-    let m = c .before .before .before .before .before .before .before .before .before .before .before .before .before .before .before .before .before .record-refusal in
-    let a = c .before .before .before .before .before .before .before .before .before .before .before .before .before .before .before .before .before .before .before .before .before .before .before .before .args in
-    on-record (shortTwo 5 (a .answer .now) 128 (a .samples .now)) (c .before .before .before .before .before .before .before .before .before .before .before .before .before .before .before .before .before .before .before .short-two .result) (a .kept .now) (a .frame .now) (a .clock) (a .answer .now) (a .samples .now) (a .kept .now) (c .before .before .before .before .before .before .before .before .before .before .before .before .before .before .before .before .before .before .before .short-two .ensures) (c .before .before .before .before .before .before .before .before .before .before .before .before .before .before .before .before .before .before .if1 .left) (m .result) (m .ensures) (c .before .before .before .before .before .before .before .before .before .before .before .before .before .before .before .before .if2 .left)
-    (n .result) (n .last .1 .1 .1 .1 .1 .1 .1 .1 .0) (n .last .1 .1 .1 .1 .1 .1 .1 .1 .1 .0) (n .last .1 .1 .1 .1 .1 .1 .1 .1 .1 .1 .0) (n .ensures .0) (n .ensures .1 .0) (n .ensures .1 .1 .0) (n .ensures .1 .1 .1)
+    let a = c .before .before .before .before .before .before .before .before .before .before .before .before .before .before .before .before .before .before .before .before .before .before .before .before .before .before .args in
+    on-record (shortTwo 5 (a .answer .now) 128 (a .samples .now)) (c .before .before .before .before .before .before .before .before .before .before .before .before .before .before .before .before .before .before .before .before .before .short-two .result) (a .kept .now) (a .frame .now) (a .clock) (a .answer .now) (a .samples .now) (a .kept .now) (c .before .before .before .before .before .before .before .before .before .before .before .before .before .before .before .before .before .before .before .before .before .short-two .ensures) (c .before .before .before .before .before .before .before .before .before .before .before .before .before .before .before .before .before .before .before .before .if1 .left) (c .before .before .before .before .before .before .before .before .before .before .before .before .before .before .before .before .before .before .before .if2 .left)
+    (n .result) (n .last .1 .1 .1 .1 .1 .1 .1 .1 .1 .1 .1 .0) (n .last .1 .1 .1 .1 .1 .1 .1 .1 .1 .1 .1 .1 .0) (n .last .1 .1 .1 .1 .1 .1 .1 .1 .1 .1 .1 .1 .1 .0) (n .ensures .0) (n .ensures .1 .0) (n .ensures .1 .1 .0) (n .ensures .1 .1 .1)
 
 pub pelgrant-arrive-spec : {M : Type 1} → statement M
 pelgrant-arrive-spec =
@@ -84,7 +88,6 @@ pelgrant-arrive-spec =
     (tie.spec
     short-two-requires
     returns
-    record-refusal-requires
     no-record-requires
     same-length
     same-length-2
@@ -95,6 +98,9 @@ pelgrant-arrive-spec =
     slice-read-arrival-4
     slice-read-arrival-5
     slice-read-arrival-6
+    slice-read-arrival-7
+    slice-read-arrival-8
+    slice-read-arrival-9
     arrival-requires
     same-length-3
     same-length-4

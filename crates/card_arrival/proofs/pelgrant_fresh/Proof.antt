@@ -6,16 +6,16 @@ use lib.ListN.{length}
 use Rattle.card.specs.Card.{put}
 use Rattle.card_arrival.specs.Kept.{recordNumbers}
 use Rattle.card.proofs.CardLaws.{within, left-alone, answered}
-use Rattle.card_arrival.proofs.KeptLaws.{six-room}
+use Rattle.card_arrival.proofs.KeptLaws.{nine-room}
 use Rattle.card_arrival.proofs.pelgrant_fresh.Statement.{statement}
 use Rattle.card_arrival.proofs.pelgrant_fresh.Tie as tie
 
-record-refusal-requires : tie.Need-record-refusal-requires
-record-refusal-requires c κs = tt
+refuse-requires : tie.Need-refuse-requires
+refuse-requires c κs = tt
 
 returns : tie.Need-returns
 returns c =
-    let e = c .before .record-refusal .ensures in
+    let e = c .before .refuse .ensures in
     (e, left-alone _ _ _ _ e (c .if1 .taken))
 
 fresh-requires : tie.Need-fresh-requires
@@ -28,14 +28,14 @@ slice-aggregate-put : tie.Need-slice-aggregate-put
 slice-aggregate-put c = omega arith
 
 put-requires : tie.Need-put-requires
-put-requires c κs = within (sym (ap length (c .before .before .record-numbers .ensures))) (six-room (length (c .before .before .before .before .before .before .before .args .kept .now)) (c .before .before .before .before .before .record-refusal .ensures) (c .before .before .before .before .if1 .left))
+put-requires c κs = within (sym (ap length (c .before .before .record-numbers .ensures))) (nine-room (length (c .before .before .before .before .before .before .before .args .kept .now)) (c .before .before .before .before .before .refuse .ensures) (c .before .before .before .before .if1 .left))
 
 same-length : tie.Need-same-length
 same-length c = c .before .before .put .kept .1 .0
 
 returns-2 : tie.Need-returns-2
 returns-2 c =
-    let e = c .before .before .before .before .before .before .before .before .record-refusal .ensures in
+    let e = c .before .before .before .before .before .before .before .before .refuse .ensures in
     let z = c .before .before .before .before .before .before .before .if1 .left in
     let f = c .before .before .before .before .before .before .fresh .ensures in
     let n = c .before .before .before .before .before .record-numbers .ensures in
@@ -46,7 +46,7 @@ pub pelgrant-fresh-spec : {M : Type 1} → statement M
 pelgrant-fresh-spec =
     tie.close
     (tie.spec
-    record-refusal-requires
+    refuse-requires
     returns
     fresh-requires
     record-numbers-requires
