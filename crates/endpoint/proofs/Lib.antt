@@ -1,6 +1,5 @@
 pub mod ArrivalLaws
 pub mod CallsLaws
-pub mod CountsLaws
 pub mod FillLaws
 pub mod IgnoredLaws
 pub mod LateLaws

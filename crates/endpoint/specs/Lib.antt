@@ -1,6 +1,5 @@
 pub mod Arrival
 pub mod Calls
-pub mod Counts
 pub mod Fill
 pub mod Outcome
 pub mod Read

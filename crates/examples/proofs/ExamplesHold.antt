@@ -37,6 +37,7 @@ use Rattle.origin.proofs.SignalLaws.{taken-signal, signal-length}
 use Rattle.playout.specs.declared.Endpoint.{Endpoint}
 use Rattle.endpoint.specs.declared.Heard.{Heard}
 use Rattle.endpoint.specs.declared.SignalHeard.{SignalHeard}
+use Rattle.playout.specs.Counts.{missingBetween}
 use Rattle.playout.specs.Play.{freshRecord, clockLimit, recordBad, refusal14, inTurn, hold, dueAt, playRefusal, scheduledAt, afterScheduled}
 use Rattle.endpoint.specs.Read.{heardOf, readAnswer}
 use Rattle.endpoint.specs.Arrival.{frameDecision, arrivalBy, arrivalOf}
@@ -196,10 +197,10 @@ arrived e P h = h
 
 -- the record after the three frames of the table
 abbrev afterThree : ℕ → Endpoint
-afterThree n = record { buildout = 100; rseq = 4; lastclock = 1050; end = 1146; mlast = 1; lastnoise = n }
+afterThree n = record { buildout = 100; rseq = 4; lastclock = 1050; end = 1146; mlast = 1; lastnoise = n; scheduled = 3; late = 0; missing = 1 }
 
 three-arrive : (P : Endpoint → Type 0) → ((n : ℕ) → n ≤ 15 → P (afterThree n)) → Arriving (freshRecord 100) three P
-unfolding playRefusal recordBad inTurn dueAt
+unfolding playRefusal recordBad inTurn dueAt missingBetween
 three-arrive P k =
     arriving-on (freshRecord 100) _ _ P refl refl
     (λ n h. arriving-on _ _ _ P (simp (le-ltb 15 n h)) refl

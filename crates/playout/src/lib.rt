@@ -150,7 +150,8 @@ fn refused(e: Endpoint, n: u8, more: u8, noise: u8) -> Decision
         left.mlast = more;
         left.lastnoise = noise;
     }
-    if n == 17 {
+    let late = n == 17;
+    if late {
         left.late = counted(e.late, 1);
     }
     Decision {

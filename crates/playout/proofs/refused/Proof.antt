@@ -2,8 +2,6 @@ use Prim.Native.Nat.{ℕ, _+_}
 use mathlib.Core.Path.{_≡_, sym, ap, ap₂, _∙_}
 use mathlib.Core.Bool.{Bool, false, cond}
 use mathlib.Core.Logic.{⊎-elim}
-use lib.Dec.{eqb}
-use borrow.Author.Tests.{eq-eqb, ne-eqb}
 use Rattle.playout.specs.declared.Endpoint.{Endpoint}
 use Rattle.playout.specs.declared.Decision.{Decision}
 use Rattle.playout.specs.Counts.{stopped, lateAfter}
@@ -30,15 +28,16 @@ counted-requires c κs = tt
 returns : tie.Need-returns
 returns c =
     let a = c .before .before .before .args in
+    let grown : c .counted .result ≡ stopped (a .e .late + 1) = c .counted .ensures in
     counted (a .e) (a .n) (a .more) (a .noise) (c .counted .result) (c .before .before .if1 .left) (stored (c .before .before))
-    (c .counted .ensures ∙ sym (ap (λ (t : Bool). cond t (stopped (a .e .late + 1)) (a .e .late)) (eq-eqb (a .n) 17 (c .before .if2 .taken))))
+    (grown ∙ sym (ap (λ (t : Bool). cond t (stopped (a .e .late + 1)) (a .e .late)) (c .before .if2 .taken)))
 
 returns-2 : tie.Need-returns-2
 returns-2 c =
     let a = c .before .before .args in
     let s = stored (c .before) in
     counted (a .e) (a .n) (a .more) (a .noise) (c .before .if1 .left .late) (c .before .if1 .left) s
-    (ap (λ (x : Endpoint). x .late) s ∙ sym (ap (λ (t : Bool). cond t (stopped (a .e .late + 1)) (a .e .late)) (ne-eqb (a .n) 17 (c .if2 .left))))
+    (ap (λ (x : Endpoint). x .late) s ∙ sym (ap (λ (t : Bool). cond t (stopped (a .e .late + 1)) (a .e .late)) (c .if2 .left)))
 
 pub refused-spec : {M : Type 1} → statement M
 refused-spec = tie.close (tie.spec counted-requires returns returns-2)

@@ -10,9 +10,9 @@ use Rattle.frame.specs.Fields.{moreBit, sequence}
 use Rattle.playout.specs.declared.Endpoint.{Endpoint}
 use Rattle.playout.specs.Counts.{stopped, lateAfter, missingBetween}
 use Rattle.playout.specs.Play.{freshRecord, rseqAfter}
 use Rattle.endpoint.specs.Calls.{Call, arrivalAt, recordAfter}
-use Rattle.endpoint.specs.Counts.{answering, Packet, packetOf, scheduledPackets, missingAmong}
+use Rattle.counts.specs.Counted.{answering, Packet, packetOf, scheduledPackets, missingAmong}
 use Rattle.endpoint.proofs.ArrivalLaws.{arrival-counts, arrival-rseq}
 
 -- a count that grows by so much with each call, and stops, has grown by all of it together, and stopped
 calls-count : (count : Endpoint → ℕ) (growth : Endpoint → Call → ℕ) (total : Endpoint → List Call → ℕ)
