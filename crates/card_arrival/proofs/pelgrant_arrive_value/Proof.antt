@@ -75,7 +75,7 @@ arrival-requires c κs =
     let a = c .before .before .before .before .before .before .before .before .before .before .before .before .before .before .before .before .before .before .before .before .before .before .args in
     let none = orElse-zero (c .before .before .before .before .before .before .before .before .before .before .before .before .before .before .before .refusal-16 .result) (c .before .before .before .before .before .before .before .before .before .before .before .before .before .before .before .before .short-two .result) (sym (c .before .before .before .before .before .before .before .before .before .before .before .before .before .before .or-else .ensures) ∙ c .before .before .before .before .before .before .before .before .before .before .before .before .before .if1 .left) in
     let r = roomy-two (length (a .answer .now)) 5 (length (a .samples .now)) 128 (c .before .before .before .before .before .before .before .before .before .before .before .before .before .before .before .before .short-two .ensures) (none .1) in
-    (roomy (c .before .before .before .before .before .before .before .before .before .before .before .before .before .before .before .refusal-16 .ensures) (none .0), r .0, r .1)
+    (roomy {n = 9} {l = length (a .after .now)} (c .before .before .before .before .before .before .before .before .before .before .before .before .before .before .before .refusal-16 .ensures) (none .0), r .0, r .1)
 
 same-length-3 : tie.Need-same-length-3
 same-length-3 c = omega arith
