@@ -1,6 +1,6 @@
 -- Request A10: after any list of calls the record's counts are those taken from the list.
 use Prim.Native.Nat.{ℕ, zero, suc, _+_, _-_, _^_, _≤_}
-use mathlib.Core.Path.{_≡_, refl, sym, ap, ap₂, _∙_}
+use mathlib.Core.Path.{_≡_, refl, sym, ap, _∙_}
 use mathlib.Core.Bool.{Bool, true, false, cond}
 use mathlib.Core.List.{List, [], _∷_}
 use native.Mathlib.Omega.{arith}
@@ -8,10 +8,10 @@ use lib.Dec.{eqb}
 use Rattle.refusals.specs.Refusals.{ifTaken}
 use Rattle.frame.specs.Fields.{moreBit, sequence}
 use Rattle.playout.specs.declared.Endpoint.{Endpoint}
-use Rattle.playout.specs.Counts.{stopped, lateAfter, missingBetween}
+use Rattle.playout.specs.Counts.{stopped, missingBetween}
 use Rattle.playout.specs.Play.{freshRecord, rseqAfter}
 use Rattle.endpoint.specs.Calls.{Call, arrivalAt, recordAfter}
-use Rattle.counts.specs.Counted.{answering, Packet, packetOf, scheduledPackets, missingAmong}
+use Rattle.counts.specs.Counted.{answering, Packet, scheduledPackets, missingAmong}
 use Rattle.endpoint.proofs.ArrivalLaws.{arrival-counts, arrival-rseq}
 
 -- a count that grows by so much with each call, and stops, has grown by all of it together, and stopped

@@ -22,7 +22,7 @@ use Rattle.endpoint.specs.Read.{heardOf, readAnswer}
 use Rattle.endpoint.specs.Arrival.{resetOf, frameDecision, arrivalBy, arrivalOf}
 use Rattle.endpoint.specs.Outcome.{toldOf, outcomeOf}
 use Rattle.endpoint.specs.Calls.{isReceived}
-use Rattle.playout.proofs.PlayLaws.{by-decision, first-stands, decided-with, decided-number, decided-scheduled, decided-ranged, decided-near, decided-ahead, decided-apart, decided-left, decided-readable, still-stores, stores-nothing, storedWith, refused-stores, refused-keeps}
+use Rattle.playout.proofs.PlayLaws.{by-decision, first-stands, decided-with, decided-number, decided-scheduled, decided-ranged, decided-near, decided-ahead, decided-apart, decided-left, decided-readable, still-stores, stores-nothing, refused-stores, refused-keeps}
 
 -- neither the number of the record nor that of the clock stores anything
 pub early-stores-nothing : (e : Endpoint) (clock : ℕ) → stillStores (refusal14 e orElse refusal18 e clock) ≡ false
