@@ -1,9 +1,10 @@
-/* Two bursts of speech from an origin through two nodes to an endpoint, as an operator would want to
+/* Three bursts of speech from an origin through two nodes to an endpoint, as an operator would want to
  * see them: what each frame weighs on the way, when it is played, and the words that are heard, of the
- * width that the nodes have left. The stop packet of the second comes late. The signalling of a trunk that
- * dies and comes back, and a frame of a foreign unit that sets the poll bit. Three frames on a line of bare
- * bits, one of them damaged there. Three that wait at a node until its line is ready. What each level would
- * give back of three others. And a tray of three, one of them damaged, that goes through two nodes. */
+ * width that the nodes have left. The stop packet of the second comes late, and a packet of the third is lost;
+ * the service desk sees both in the counts of the record. The signalling of a trunk that dies and comes back,
+ * and a frame of a foreign unit that sets the poll bit. Three frames on a line of bare bits, one of them damaged
+ * there. Three that wait at a node until its line is ready. What each level would give back of three others. And
+ * a tray of three, one of them damaged, that goes through two nodes. */
 
 #include <stdio.h>
 #include <string.h>
@@ -358,7 +359,10 @@ static void show_first(const uint8_t words[PELGRANT_SAMPLES])
         printf(" %2d", words[n]);
 }
 
-/* A packet of a burst that begins at this time of the play clock; wait is its wait at the second node. */
+/* In the place of a wait: the packet is lost between the nodes. */
+static const uint32_t LOST = UINT32_MAX;
+
+/* A packet of a burst that begins at this time of the play clock; wait is its wait at the second node, or LOST. */
 static int packet(circuit *line, uint64_t begins, int place, uint32_t wait)
 {
     /* The first node drops a block of all but the first packet. The second is busy in the middle of the burst and
@@ -384,6 +388,10 @@ static int packet(circuit *line, uint64_t begins, int place, uint32_t wait)
     if (number != 0)
         return refused("node 1", number);
     printf("  %12zu", passing.length);
+    if (wait == LOST) {
+        printf("  lost\n");
+        return 0;
+    }
 
     number = node(&passing, busy[place], made + 9, made + 9 + wait, 4711);
     if (number != 0)
@@ -437,6 +445,15 @@ static int play_without_packet(const circuit *line)
     return 0;
 }
 
+/* What the service desk is shown of a circuit, whenever it likes. A packet that did not come is missing as soon as
+ * one behind it is scheduled, and so is one that was late. */
+static void desk(const circuit *line)
+{
+    printf("the desk reads: scheduled %llu, late %llu, missing %llu\n",
+        (unsigned long long)line->record[PELGRANT_SCHEDULED], (unsigned long long)line->record[PELGRANT_LATE],
+        (unsigned long long)line->record[PELGRANT_MISSING]);
+}
+
 int main(void)
 {
     static const uint32_t waits[PACKETS] = {12, 20, 64, 58, 47, 31};
@@ -452,6 +469,7 @@ int main(void)
             return 1;
     if (play_without_packet(&line) != 0)
         return 1;
+    desk(&line);
 
     printf("\n");
     heading("The next, whose stop packet comes late");
@@ -461,6 +479,14 @@ int main(void)
     if (play_without_packet(&line) != 0 || packet(&line, 2000, PACKETS - 1, 140) != 0
         || play_without_packet(&line) != 0)
         return 1;
+    desk(&line);
+
+    printf("\n");
+    heading("A third, of which a packet is lost: it is missing, and the late stop too");
+    for (int place = 0; place < PACKETS; place++)
+        if (packet(&line, 3000, place, place == 2 ? LOST : waits[place]) != 0)
+            return 1;
+    desk(&line);
     if (trunk() != 0)
         return 1;
     foreign_unit();

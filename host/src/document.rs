@@ -1,4 +1,4 @@
-//! Document 01, amended by requests A2, A5 and A9 of document 02, in plain Rust. It is written from the
+//! Document 01, amended by requests A2, A5, A9 and A10 of document 02, in plain Rust. It is written from the
 //! documents alone, as the yardstick of the proved library: what the library answers is right if this
 //! answers the same, and its speed is measured against this.
 
@@ -422,11 +422,25 @@ pub struct Endpoint {
     pub end: u64,
     pub m_last: u8,
     pub last_noise: u8,
+    /// The counts of A10. Each stops at 2^32-1, the last number of its type, so that none is out of range.
+    pub scheduled: u32,
+    pub late: u32,
+    pub missing: u32,
 }
 
 impl Endpoint {
     pub const fn fresh(build_out: u8) -> Endpoint {
-        Endpoint { build_out, rseq: 0, last_clock: 0, end: 0, m_last: 0, last_noise: 0 }
+        Endpoint {
+            build_out,
+            rseq: 0,
+            last_clock: 0,
+            end: 0,
+            m_last: 0,
+            last_noise: 0,
+            scheduled: 0,
+            late: 0,
+            missing: 0,
+        }
     }
 
     fn in_range(&self) -> bool {
@@ -456,18 +470,37 @@ pub struct Scheduled {
     pub voice: Voice,
 }
 
+/// The least number of unscheduled packets that RSEQ and the sequence of a frame allow (A10).
+pub fn missing_between(rseq: u8, sequence: u8) -> u8 {
+    match (rseq, sequence) {
+        (0, _) => sequence,
+        // The stop.
+        (_, 0) => 1,
+        _ => {
+            let burst_went_on = (sequence as i8 - rseq as i8).rem_euclid(15) as u8;
+            let new_one_began = sequence + 1;
+            burst_went_on.min(new_one_began)
+        }
+    }
+}
+
 pub fn arrive(endpoint: &mut Endpoint, frame: &[u8], clock: u64) -> Result<Scheduled, Refusal> {
     refuse_if(!endpoint.in_range(), Record)?;
     refuse_if(clock < endpoint.last_clock || clock > CLOCK_MAX, Clock)?;
     link_of_kind(frame, Kind::Voice)?;
     let blocks = voice_blocks(frame)?;
 
-    // Received, even if it is not to be played: 17 and 20 leave these two stored and nothing else (A2).
+    // Received, even if it is not to be played: 17 and 20 leave these two stored (A2), and 17 is counted (A10).
     let (sequence, more) = (sequence_of(frame), more_of(frame));
     endpoint.m_last = more.into();
     endpoint.last_noise = noise_of(frame);
-    let due = endpoint.due(sequence, stamp_of(frame), clock)?;
+    let due = endpoint.due(sequence, stamp_of(frame), clock);
+    endpoint.late = endpoint.late.saturating_add((due == Err(Late)).into());
+    let due = due?;
 
+    let missing = missing_between(endpoint.rseq, sequence);
+    endpoint.scheduled = endpoint.scheduled.saturating_add(1);
+    endpoint.missing = endpoint.missing.saturating_add(missing.into());
     endpoint.rseq = if more { next_sequence(sequence) } else { 0 };
     endpoint.last_clock = clock;
     endpoint.end = due + PACKET_MS;
@@ -512,6 +545,7 @@ pub fn noise_level(code: u8) -> Result<Option<f64>, Refusal> {
 #[cfg(test)]
 mod tests {
     use super::*;
+    use crate::sseq::least_between;
 
     const AT_ONCE: Departure = Departure { from: 0, to: 0, address: 128 };
 
@@ -649,13 +683,27 @@ mod tests {
         assert_eq!(due(1050, 3, 20), Ok(1130));
         let before = endpoint;
         assert_eq!(arrive(&mut endpoint, &stop_frame(4, 100), 1147), Err(Late));
-        assert_eq!(endpoint, Endpoint { m_last: 0, last_noise: 9, ..before });
+        assert_eq!(endpoint, Endpoint { m_last: 0, last_noise: 9, late: 1, ..before });
         assert_eq!(arrive(&mut endpoint, &voice_frame(4, 100), 1146).unwrap().due, 1146);
     }
 
     /// Two packets of a burst came, and its third is to follow.
-    const TALKING: Endpoint =
-        Endpoint { build_out: 100, rseq: 2, last_clock: 1010, end: 1102, m_last: 1, last_noise: 5 };
+    const TALKING: Endpoint = Endpoint {
+        build_out: 100,
+        rseq: 2,
+        last_clock: 1010,
+        end: 1102,
+        m_last: 1,
+        last_noise: 5,
+        scheduled: 2,
+        late: 0,
+        missing: 0,
+    };
+
+    /// The counts in their order: scheduled, late, missing.
+    fn counts(endpoint: &Endpoint) -> [u32; 3] {
+        [endpoint.scheduled, endpoint.late, endpoint.missing]
+    }
 
     #[test]
     fn a_stop_packet_counts_though_it_is_not_played() {
@@ -667,6 +715,7 @@ mod tests {
         let mut clump = Endpoint::fresh(199);
         (0..16).for_each(|sequence| assert!(arrive(&mut clump, &voice_frame(sequence, 0), 1000).is_ok()));
         assert_eq!((clump.rseq, clump.end, clump.m_last), (1, 1455, 1));
+        assert_eq!(counts(&clump), [16, 0, 0]);
 
         let (last, noise) = ([1; 128], [2; 128]);
         for (before, sequence, stamp, clock, refusal) in [
@@ -680,13 +729,93 @@ mod tests {
             (clump, 3, 199, 1015, Early),
         ] {
             let mut endpoint = before;
+            let late = u32::from(refusal == Late);
             assert_eq!(arrive(&mut endpoint, &stop_frame(sequence, stamp), clock), Err(refusal));
-            assert_eq!(endpoint, Endpoint { m_last: 0, last_noise: 9, ..before });
+            assert_eq!(endpoint, Endpoint { m_last: 0, last_noise: 9, late, ..before });
             assert_eq!(fill(&last, &noise, endpoint.m_last), noise);
             // As late, but of a burst that goes on: the packet is missed, and the last one is repeated.
             assert_eq!(arrive(&mut endpoint, &voice_frame(sequence, stamp), clock), Err(refusal));
-            assert_eq!(endpoint, Endpoint { m_last: 1, last_noise: 5, ..before });
+            assert_eq!(endpoint, Endpoint { m_last: 1, last_noise: 5, late: 2 * late, ..before });
             assert_eq!(fill(&last, &noise, endpoint.m_last), last);
+        }
+    }
+
+    #[test]
+    fn missing_is_the_least_that_the_origin_can_have_sent() {
+        for rseq in 0..=15 {
+            for sequence in 0..=15 {
+                let (missing, pair) = (missing_between(rseq, sequence), format!("RSEQ {rseq}, sequence {sequence}"));
+                assert_eq!(missing, least_between(rseq, sequence), "{pair}");
+                for frame in [voice_frame(sequence, 24), stop_frame(sequence, 24)] {
+                    let mut endpoint = Endpoint { rseq, late: 7, missing: 9, ..TALKING };
+                    assert!(arrive(&mut endpoint, &frame, 1020).is_ok());
+                    assert_eq!(counts(&endpoint), [3, 7, 9 + u32::from(missing)], "{pair}");
+                }
+            }
+        }
+    }
+
+    #[test]
+    fn counts_from_a_fresh_record_on() {
+        let mut endpoint = Endpoint::fresh(100);
+        assert_eq!(counts(&endpoint), [0, 0, 0]);
+        for (clock, frame, number, right) in [
+            (1000, voice_frame(0, 24), 0, [1, 0, 0]),
+            (1016, voice_frame(1, 24), 0, [2, 0, 0]),
+            // 2 and 3 are lost.
+            (1064, voice_frame(4, 24), 0, [3, 0, 2]),
+            // 5 is late, and missing once a later one is scheduled.
+            (1080, voice_frame(5, 101), 17, [3, 1, 2]),
+            (1096, voice_frame(6, 24), 0, [4, 1, 3]),
+            // The same again, as if the burst had ended and another had come as far; damaged it counts nothing.
+            (1100, voice_frame(6, 24), 0, [5, 1, 10]),
+            (1100, voice_frame(6, 24)[1..].to_vec(), 2, [5, 1, 10]),
+            // In turn, but what it follows has been played. The clock of the call before goes back behind it.
+            (1205, stop_frame(7, 24), 17, [5, 2, 10]),
+            (1099, stop_frame(7, 24), 18, [5, 2, 10]),
+            (1204, stop_frame(7, 24), 0, [6, 2, 10]),
+            // START and 1 of the next burst are lost, and then its stop; START of another comes.
+            (1500, voice_frame(2, 24), 0, [7, 2, 12]),
+            (1600, voice_frame(0, 24), 0, [8, 2, 13]),
+            (1616, voice_frame(1, 24), 0, [9, 2, 13]),
+            // Its stop is lost with the START after it; and of the burst twelve, 2 to 13.
+            (1700, voice_frame(1, 24), 0, [10, 2, 15]),
+            (1900, voice_frame(14, 24), 0, [11, 2, 27]),
+            // 15 is lost, and 1 follows it.
+            (1932, voice_frame(1, 24), 0, [12, 2, 28]),
+        ] {
+            let answered = arrive(&mut endpoint, &frame, clock).map_or_else(|refusal| refusal as u8, |_| 0);
+            assert_eq!((answered, counts(&endpoint)), (number, right), "clock {clock}, {frame:?}");
+        }
+    }
+
+    #[test]
+    fn each_count_stops_at_its_limit() {
+        for (count, plus_1, plus_2, plus_5) in [
+            (0, 1, 2, 5),
+            (4294967290, 4294967291, 4294967292, 4294967295),
+            (4294967293, 4294967294, 4294967295, 4294967295),
+            (4294967294, 4294967295, 4294967295, 4294967295),
+            (4294967295, 4294967295, 4294967295, 4294967295),
+        ] {
+            let before = Endpoint { scheduled: count, late: count, missing: count, ..TALKING };
+            let after = |frame: &[u8], clock| {
+                let mut endpoint = before;
+                let answered = arrive(&mut endpoint, frame, clock);
+                (answered.err(), counts(&endpoint))
+            };
+            assert_eq!(after(&voice_frame(2, 24), 1020), (None, [plus_1, count, count]));
+            assert_eq!(after(&voice_frame(0, 24), 1020), (None, [plus_1, count, plus_1]));
+            assert_eq!(after(&voice_frame(4, 24), 1020), (None, [plus_1, count, plus_2]));
+            assert_eq!(after(&voice_frame(7, 24), 1020), (None, [plus_1, count, plus_5]));
+            assert_eq!(after(&voice_frame(7, 101), 1020), (Some(Late), [count, plus_1, count]));
+            assert_eq!(after(&voice_frame(2, 24), 1103), (Some(Late), [count, plus_1, count]));
+            assert_eq!(after(&voice_frame(7, 24), 1009), (Some(Clock), [count; 3]));
+            assert_eq!(after(&voice_frame(7, 201), 1020), (Some(Stamp), [count; 3]));
+
+            let mut ahead = Endpoint { end: 1010 + 455, ..before };
+            assert_eq!(arrive(&mut ahead, &voice_frame(7, 24), 1025), Err(Early));
+            assert_eq!(counts(&ahead), [count; 3]);
         }
     }
 

@@ -16,7 +16,7 @@ use crate::Calls;
 /// The independent implementation.
 pub struct Document;
 
-pub const RECORD: usize = 6;
+pub const RECORD: usize = 9;
 pub const WATCH: usize = 9;
 const SHORT: u8 = Refusal::Buffer as u8;
 
@@ -50,10 +50,11 @@ fn step_of(step: u8) -> Result<Step, Refusal> {
 }
 
 fn endpoint_of(record: &[u64]) -> Result<Endpoint, Refusal> {
-    let &[build_out, rseq, last_clock, end, m_last, last_noise] = record else {
+    let &[build_out, rseq, last_clock, end, m_last, last_noise, scheduled, late, missing] = record else {
         return Err(Refusal::Record);
     };
     let octet = |field| u8::try_from(field).map_err(|_| Refusal::Record);
+    let count = |field| u32::try_from(field).map_err(|_| Refusal::Record);
     Ok(Endpoint {
         build_out: octet(build_out)?,
         rseq: octet(rseq)?,
@@ -61,12 +62,16 @@ fn endpoint_of(record: &[u64]) -> Result<Endpoint, Refusal> {
         end,
         m_last: octet(m_last)?,
         last_noise: octet(last_noise)?,
+        scheduled: count(scheduled)?,
+        late: count(late)?,
+        missing: count(missing)?,
     })
 }
 
 fn record_of(endpoint: &Endpoint) -> [u64; RECORD] {
-    let &Endpoint { build_out, rseq, last_clock, end, m_last, last_noise } = endpoint;
-    [build_out.into(), rseq.into(), last_clock, end, m_last.into(), last_noise.into()]
+    let &Endpoint { build_out, rseq, last_clock, end, m_last, last_noise, scheduled, late, missing } = endpoint;
+    let [scheduled, late, missing] = [scheduled, late, missing].map(u64::from);
+    [build_out.into(), rseq.into(), last_clock, end, m_last.into(), last_noise.into(), scheduled, late, missing]
 }
 
 /// Moves a record of numbers on. One that is no record is left as it came; of any other the arrival
@@ -399,7 +404,7 @@ mod tests {
     /// What comes of the three calls that hear a frame: the number, the answer and the samples. The arrivals are on a
     /// record of that build-out at clock 1000; each answer slice is longer than is needed, or shorter, by as much.
     fn hear(frame: &[u8], build_out: u64, longer: isize) -> [(u8, Vec<u64>, [u8; 130]); 3] {
-        let record = [build_out, 0, 0, 0, 0, 0];
+        let record = [build_out, 0, 0, 0, 0, 0, 0, 0, 0];
         let heard = |needed: isize, call: &dyn Fn(&mut [u64], &mut [u8]) -> u8| {
             let (mut answer, mut samples) = (vec![UNUSED; (needed + longer) as usize], [0xFF; 130]);
             (call(&mut answer, &mut samples), answer, samples)
@@ -461,26 +466,82 @@ mod tests {
         let (mut stop, departure) = ([0; 26], Departure { from: 0, to: 24, address: 128 });
         let packet = Packet { step: Step::Stop, coding: 1, noise: 9, samples: &[0; SAMPLES] };
         document::send(&mut 2, &packet, 0, &departure, &mut stop).unwrap();
-        let inside = [100, 2, 1010, 1102, 1, 5];
-        assert_eq!(arrive(&inside, &stop, 1102), (0, vec![100, 0, 1102, 1118, 0, 9]));
-        assert_eq!(arrive(&inside, &stop, 1103), (17, vec![100, 2, 1010, 1102, 0, 9]));
-        assert_eq!(arrive(&[23, 2, 1010, 1102, 1, 5], &stop, 1102), (17, vec![23, 2, 1010, 1102, 0, 9]));
-        assert_eq!(arrive(&[100, 2, 1010, 1465, 1, 5], &stop, 1025), (20, vec![100, 2, 1010, 1465, 0, 9]));
+        let inside = [100, 2, 1010, 1102, 1, 5, 70, 80, 90];
+        let with = |changes: &[(usize, u64)]| {
+            let mut record = inside.to_vec();
+            changes.iter().for_each(|&(field, number)| record[field] = number);
+            record
+        };
+        let moved_on =
+            |scheduled, missing| with(&[(1, 0), (2, 1102), (3, 1118), (4, 0), (5, 9), (6, scheduled), (8, missing)]);
+        assert_eq!(arrive(&inside, &stop, 1102), (0, moved_on(71, 90)));
+        assert_eq!(arrive(&inside, &stop, 1103), (17, with(&[(4, 0), (5, 9), (7, 81)])));
+        assert_eq!(arrive(&with(&[(0, 23)]), &stop, 1102), (17, with(&[(0, 23), (4, 0), (5, 9), (7, 81)])));
+        assert_eq!(arrive(&with(&[(3, 1465)]), &stop, 1025), (20, with(&[(3, 1465), (4, 0), (5, 9)])));
 
         let left = |number, record: &[u64], frame: &[u8], clock| {
             assert_eq!(arrive(record, frame, clock), (number, record.to_vec()));
         };
         left(18, &inside, &stop, 1009);
         left(1, &inside, &stop[..9], 1103);
-        left(14, &inside[..5], &stop, 1103);
-        left(14, &[100, 2, 1010, 1102, 1, 5, 0], &stop, 1103);
+        for length in (0..=8).chain([10, 18]) {
+            // Among them a record as long as it was before there were counts.
+            left(14, &[inside, inside].concat()[..length], &stop, 1103);
+        }
         for (field, limit) in [(0, 199), (1, 15), (2, 1 << 62), (3, 1010 + 455), (4, 1), (5, 15)] {
             // 256 and the like are in range by their lowest octet.
             for number in [limit + 1, limit.max(255) + 1, u64::MAX] {
-                let mut record = inside;
-                record[field] = number;
-                left(14, &record, &stop, 1103);
+                left(14, &with(&[(field, number)]), &stop, 1103);
             }
+        }
+    }
+
+    #[test]
+    fn counts_in_numbers() {
+        const LIMIT: u64 = 4294967295;
+        // In turn, by either call, on a record with these counts.
+        let counted = |counts: [u64; 3]| {
+            let (number, record) = arrive(&[&[100, 0, 0, 0, 0, 0][..], &counts].concat(), &start(1), 1000);
+            (number, record[1], [record[6], record[7], record[8]])
+        };
+        assert_eq!(counted([0, 0, 0]), (0, 1, [1, 0, 0]));
+        assert_eq!(counted([LIMIT - 1, 5, LIMIT - 1]), (0, 1, [LIMIT, 5, LIMIT - 1]));
+        assert_eq!(counted([LIMIT; 3]), (0, 1, [LIMIT; 3]));
+        for place in 0..3 {
+            // 2^32 and the like are in range by their lower half.
+            for number in [LIMIT + 1, LIMIT + 2, 1 << 63, u64::MAX] {
+                let mut counts = [3; 3];
+                counts[place] = number;
+                assert_eq!(counted(counts), (14, 0, counts));
+            }
+        }
+    }
+
+    #[test]
+    fn records_are_made_of_nine_numbers() {
+        for length in (0..=8).chain([10, 18]) {
+            let mut record = vec![UNUSED; length];
+            assert_eq!((Document.fresh(100, &mut record), record), (14, vec![UNUSED; length]));
+        }
+        for build_out in [0, 100, 255] {
+            let mut record = [UNUSED; 9];
+            assert_eq!(Document.fresh(build_out, &mut record), 0);
+            assert_eq!(record, [build_out.into(), 0, 0, 0, 0, 0, 0, 0, 0]);
+        }
+    }
+
+    #[test]
+    fn records_by_value_go_to_nine_numbers() {
+        let record = [100, 0, 0, 0, 0, 0, 1, 2, 3];
+        for (slots, number) in [(0, 16), (6, 16), (8, 16), (9, 0), (11, 0)] {
+            let (mut after, mut answer, mut samples) = (vec![UNUSED; slots], [UNUSED; 5], [0xFF; SAMPLES]);
+            let mut right = after.clone();
+            if number == 0 {
+                right[..9].copy_from_slice(&[100, 1, 1000, 1092, 1, 3, 2, 2, 3]);
+            }
+            let answered = Document.arrive_value(&record, &start(1), 1000, &mut after, &mut answer, &mut samples);
+            assert_eq!((answered, after), (number, right));
+            assert_eq!(answer[0], if number == 0 { 1076 } else { UNUSED });
         }
     }
 

@@ -8,6 +8,7 @@ pub mod line;
 pub mod queue;
 pub mod random;
 pub mod ring;
+pub mod sseq;
 pub mod tray;
 pub mod watch;
 

@@ -11,7 +11,7 @@ mod works;
 
 use pelgrant_host::abi::{Card, Plain};
 use pelgrant_host::document::check_sequence;
-use pelgrant_host::flat::Document;
+use pelgrant_host::flat::{Document, RECORD as NUMBERS};
 use pelgrant_host::foreign::{NAMES, STACKS};
 use pelgrant_host::queue::{STORE_MAX, TOTAL_MAX};
 use pelgrant_host::random::Random;
@@ -54,7 +54,7 @@ macro_rules! both {
 
 /// Of 16 states and the default times, just started.
 const WATCH: [u64; 9] = [16, 10_000, 25_000, 0, 0, 0, 0, 0, 0];
-const RECORD: [u64; 6] = [100, 0, 0, 0, 0, 0];
+const RECORD: [u64; NUMBERS] = [100, 0, 0, 0, 0, 0, 0, 0, 0];
 /// Of octet 1, and of octet 3.
 const COMMAND_RESPONSE: u8 = 2;
 const POLL: u8 = 16;
@@ -168,6 +168,10 @@ impl Done {
         self.heard_rows(name, &frame);
         if coding == TYPE_21 {
             self.heard_rows("type 21, 3 dropped", &voice_at(TYPE_21, 3));
+            // Of sequence 3, again and again: RSEQ is 4, and the lesser of 14 and 4 is missing each time.
+            let behind_a_loss = changed(&frame, 7, 0x33, frame.len());
+            let works = both!(arrive, 0, RECORD, &behind_a_loss, 0, 16);
+            self.row("arrive", "type 21, 4 missing", works, Some(bare_read(yardstick, &behind_a_loss)));
         }
         self.row("link", name, both!(link, 0, &frame), check());
         self.row("taken", name, both!(taken, 0, &frame), check());
@@ -298,10 +302,10 @@ impl Refused {
             self.row(number, "arrive", what, frame, works, endpoint_check(frame));
         }
         for (number, what, record, frame, clock) in [
-            (14, "voice, B 200", [200, 0, 0, 0, 0, 0], &voice, 0),
+            (14, "voice, B 200", [200, 0, 0, 0, 0, 0, 0, 0, 0], &voice, 0),
             (17, "voice, stamp 150", RECORD, &changed(&voice, 5, 150, voice.len()), 0),
-            (18, "voice, clock back", [100, 0, 1000, 0, 0, 0], &voice, 999),
-            (20, "voice, too early", [100, 0, 1000, 1455, 0, 0], &voice, 1000),
+            (18, "voice, clock back", [100, 0, 1000, 0, 0, 0, 0, 0, 0], &voice, 999),
+            (20, "voice, too early", [100, 0, 1000, 1455, 0, 0, 0, 0, 0], &voice, 1000),
         ] {
             let works = both!(arrive, number, record, frame, clock, 0);
             self.row(number, "arrive", what, frame, works, endpoint_check(frame));

@@ -4,6 +4,7 @@
 
 use crate::timing::{repeated, Work};
 use pelgrant_host::document::{Coding, Departure, SAMPLES};
+use pelgrant_host::flat::RECORD;
 use pelgrant_host::foreign::Stack;
 use pelgrant_host::queue::{given_back, CLOCKS, COUNT, LENGTHS, LEVELS, QUEUE, TOTALS};
 use pelgrant_host::tray::{self, Passed};
@@ -73,11 +74,14 @@ pub fn read<C: Calls + 'static>(calls: C, number: u8, frame: &[u8]) -> Work {
 }
 
 pub fn fresh<C: Calls + 'static>(calls: C, number: u8) -> Work {
-    repeated(number, (100, vec![0; 6]), move |(build_out, record)| calls.fresh(*build_out, record))
+    repeated(number, (100, vec![0; RECORD]), move |(build_out, record)| calls.fresh(*build_out, record))
 }
 
-/// The first frame of a burst, every 16 ms, so that each is scheduled; a clock that stands still where refused.
-pub fn arrive<C: Calls + 'static>(calls: C, number: u8, record: [u64; 6], frame: &[u8], clock: u64, tick: u64) -> Work {
+/// The first frame of a burst, every 16 ms, so that each is scheduled and each but the first counts a lost stop; a clock
+/// that stands still where refused.
+pub fn arrive<C: Calls + 'static>(
+    calls: C, number: u8, record: [u64; RECORD], frame: &[u8], clock: u64, tick: u64,
+) -> Work {
     let lent = (record.to_vec(), frame.to_vec(), clock, vec![0; 5], vec![0; 128]);
     repeated(number, lent, move |(record, frame, clock, answer, samples)| {
         *clock += tick;
@@ -86,8 +90,8 @@ pub fn arrive<C: Calls + 'static>(calls: C, number: u8, record: [u64; 6], frame:
 }
 
 /// The same, each record the one after the call before.
-pub fn arrive_value<C: Calls + 'static>(calls: C, number: u8, record: [u64; 6], frame: &[u8]) -> Work {
-    let lent = (record.to_vec(), frame.to_vec(), 0, vec![0; 6], vec![0; 5], vec![0; 128]);
+pub fn arrive_value<C: Calls + 'static>(calls: C, number: u8, record: [u64; RECORD], frame: &[u8]) -> Work {
+    let lent = (record.to_vec(), frame.to_vec(), 0, vec![0; RECORD], vec![0; 5], vec![0; 128]);
     repeated(number, lent, move |(record, frame, clock, after, answer, samples)| {
         *clock += 16;
         let number = calls.arrive_value(record, frame, *clock, after, answer, samples);

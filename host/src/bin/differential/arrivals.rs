@@ -1,5 +1,5 @@
 //! Counts the refused arrivals that would show a record left wrong: 17 and 20 store the frame's more
-//! bit and noise, every other refusal leaves the record whole.
+//! bit and noise, every other refusal leaves the record whole. Its counts are in `counts.rs`.
 
 use crate::table::{crossed, Table};
 use crate::tally::{label, Call};

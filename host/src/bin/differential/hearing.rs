@@ -5,6 +5,7 @@ use crate::inputs::{self, FLAT_16};
 use crate::lent::Lent;
 use crate::table::{crossed, Table};
 use crate::tally::{label, Call};
+use pelgrant_host::flat::RECORD;
 use pelgrant_host::random::Random;
 
 const SAMPLES: usize = 128;
@@ -103,7 +104,7 @@ pub fn holds(call: Call, outcome: usize, before: &Lent, after: &Lent) -> bool {
 }
 
 fn short_after(call: Call, lent: &Lent) -> bool {
-    call == Call::ArriveValue && lent.after.part().len() < 6
+    call == Call::ArriveValue && lent.after.part().len() < RECORD
 }
 
 fn coding_of(frame: &[u8]) -> u8 {

@@ -2,9 +2,15 @@
 //! values at and just past each limit oftener than the rest.
 
 use pelgrant_host::document::{check_sequence, Coding, Kind};
+use pelgrant_host::flat::RECORD;
 use pelgrant_host::random::Random;
 
 pub const CLOCK_MAX: u64 = 1 << 62;
+pub const COUNT_MAX: u64 = (1 << 32) - 1;
+/// Where the three counts of a record begin.
+pub const FIRST_COUNT: usize = 6;
+/// How far after the clock a frame may be due.
+pub const AHEAD_MAX: u64 = 439;
 pub const LEGAL_CODINGS: [u8; 17] = [0, 1, 2, 3, 4, 5, 6, 7, 8, 9, 10, 11, 12, 13, 20, 21, 24];
 
 /// The greatest of the calls' own refusals.
@@ -35,6 +41,10 @@ impl Faults {
             2 => Faults(1 << random.pick(numbers)),
             _ => Faults::of(numbers.iter().filter(|_| random.one_in(4))),
         }
+    }
+
+    pub fn but(self, number: usize) -> Faults {
+        Faults(self.0 & !(1 << number))
     }
 
     pub fn has(self, number: usize) -> bool {
@@ -366,7 +376,26 @@ fn wrong_clock(random: &mut Random, last_clock: u64) -> u64 {
     }
 }
 
-pub fn record(random: &mut Random, bad: bool) -> [u64; 6] {
+/// A count, or a number that fits none.
+pub fn count(random: &mut Random, bad: bool) -> u64 {
+    let (few, any) = (random.below(100), random.number());
+    match bad {
+        true => random.pick(&[1 << 32, (1 << 32) + few, 1 << 63, u64::MAX, any | 1 << 32, any | 1 << 63]),
+        false => random.pick(&[0, few, COUNT_MAX - 1, COUNT_MAX, any & COUNT_MAX]),
+    }
+}
+
+/// The length of a slice for a record.
+pub fn record_length(random: &mut Random, bad: bool) -> usize {
+    if bad {
+        random.pick(&[0, 1, 2, 3, 4, 5, 6, 7, 8, 10, 12, 18])
+    } else {
+        RECORD
+    }
+}
+
+/// A record with any counts; where bad, one of its other numbers is out of range, or several.
+pub fn record(random: &mut Random, bad: bool) -> [u64; RECORD] {
     let bad_fields = match (bad, random.one_in(4)) {
         (false, _) => 0,
         (true, false) => 1 << random.below(6),
@@ -382,6 +411,7 @@ pub fn record(random: &mut Random, bad: bool) -> [u64; 6] {
             false => last_clock.saturating_add(random.pick(&[0, 16, 439, 440, 454, 455, ahead, ahead, ahead])),
         }
     };
+    let [scheduled, late, missing] = [(); 3].map(|()| count(random, false));
     let mut small = |field, limit: u8| match bad(field) {
         true => {
             let any = random.number().max(u64::from(limit) + 1);
@@ -389,10 +419,26 @@ pub fn record(random: &mut Random, bad: bool) -> [u64; 6] {
         }
         false => up_to(random, limit, false).into(),
     };
-    [small(0, 199), small(1, 15), last_clock, end, small(4, 1), small(5, 15)]
+    [small(0, 199), small(1, 15), last_clock, end, small(4, 1), small(5, 15), scheduled, late, missing]
 }
 
-pub fn clock(random: &mut Random, record: &[u64; 6], bad: bool) -> u64 {
+/// The record as it is lent; of the flat form's 14, where that is wanted, of another length or with counts that fit no
+/// field, one of them or more.
+pub fn lent_record(random: &mut Random, record: &[u64; RECORD], faults: Faults) -> Vec<u64> {
+    let mut record = record.to_vec();
+    if faults.has(FLAT_14) {
+        if random.one_in(2) {
+            record.resize(record_length(random, true), 0);
+        } else {
+            let unfit = random.pick(&[1, 1, 2, 2, 4, 4, 3, 5, 6, 7]);
+            let places = (0..3).filter(|place| unfit >> place & 1 == 1);
+            places.for_each(|place| record[FIRST_COUNT + place] = count(random, true));
+        }
+    }
+    record
+}
+
+pub fn clock(random: &mut Random, record: &[u64; RECORD], bad: bool) -> u64 {
     let &[_, _, last_clock, end, ..] = record;
     if bad {
         return wrong_clock(random, last_clock);
@@ -403,8 +449,8 @@ pub fn clock(random: &mut Random, record: &[u64; 6], bad: bool) -> u64 {
         last_clock.saturating_add(soon),
         last_clock.saturating_add(soon),
         last_clock.saturating_add(later),
-        end.saturating_sub(440),
-        end.saturating_sub(439),
+        end.saturating_sub(AHEAD_MAX + 1),
+        end.saturating_sub(AHEAD_MAX),
         end.saturating_sub(1),
         end,
         end.saturating_add(1),
@@ -413,6 +459,40 @@ pub fn clock(random: &mut Random, record: &[u64; 6], bad: bool) -> u64 {
         any,
     ]);
     clock.min(CLOCK_MAX).max(last_clock)
+}
+
+/// A clock that goes on from the record's by less than the pace, and now and then past the end.
+pub fn clock_on(random: &mut Random, record: &[u64; RECORD], pace: u64) -> u64 {
+    let &[_, _, last_clock, end, ..] = record;
+    if random.one_in(12) {
+        end.max(last_clock) + 1
+    } else {
+        last_clock + random.below(pace)
+    }
+}
+
+/// A frame that mostly suits the record.
+pub fn arriving(random: &mut Random, record: &[u64; RECORD], faults: Faults) -> Vec<u8> {
+    if random.one_in(4) {
+        return frame(random);
+    }
+    if faults.has(19) {
+        return Draft::signalling(random, faults).octets(random);
+    }
+    let mut draft = Draft::voice(random, faults);
+    let build_out = record[0].min(199) as u8;
+    if !faults.has(9) {
+        let in_time = random.octet_below(u16::from(build_out) + 1);
+        let late = build_out + 1 + random.octet_below(200 - u16::from(build_out));
+        draft.head[5] = match faults.has(17) {
+            true => random.pick(&[build_out + 1, 200, late]),
+            false => random.pick(&[0, build_out, in_time, in_time]),
+        };
+    }
+    if !random.one_in(4) {
+        draft.head[7] = (record[1] as u8) << 4 | draft.head[7] & 15;
+    }
+    draft.octets(random)
 }
 
 // ---- The signalling watch ----

@@ -1,6 +1,8 @@
 //! What a call is lent, with a guard before and behind each slice, so that octets written
 //! outside it are seen as well.
 
+use crate::inputs;
+use pelgrant_host::flat::RECORD;
 use pelgrant_host::queue::QUEUE;
 use pelgrant_host::random::Random;
 use std::fmt::{Debug, Formatter};
@@ -100,12 +102,13 @@ pub struct Lent {
 }
 
 impl Lent {
-    /// A frame, and what any call that reads one is lent besides: a fresh record with the greatest build-out, an empty
-    /// waiting room, and room for every answer.
+    /// A frame, and what any call that reads one is lent besides: a fresh record with the greatest build-out but for its
+    /// counts, an empty waiting room, and room for every answer.
     pub fn to_read(random: &mut Random, frame: &[u8]) -> Lent {
+        let [scheduled, late, missing] = [(); 3].map(|()| inputs::count(random, false));
         Lent {
-            record: numbers(random, &[199, 0, 0, 0, 0, 0]),
-            after: slots(random, 6),
+            record: numbers(random, &[199, 0, 0, 0, 0, 0, scheduled, late, missing]),
+            after: slots(random, RECORD),
             store: buffer(random, 490),
             queue: queue(random, &[0; QUEUE]),
             frame: octets(random, frame),

@@ -4,11 +4,13 @@
 //!
 //! `differential [INPUTS [SEED]]`: INPUTS for each call, more for the events of a watch, fewer for the
 //! calls of a line and of a waiting room and for trays, a tenth as many chains, fewer again for each bit that a
-//! writer sets to 0, trays that have to come to the same frame by frame and cut in two, and long sequences of calls
-//! on one waiting room, which have to go as a plain list does.
+//! writer sets to 0, for each pair of RSEQ and sequence, trays that have to come to the same frame by frame and cut in
+//! two, sequences of arrivals, whose counts have to be those taken from the list of all calls, packets of an origin that
+//! are lost on their way, and long sequences of calls on one waiting room, which have to go as a plain list does.
 
 mod arrivals;
 mod cases;
+mod counts;
 mod head_bits;
 mod hearing;
 mod inputs;
@@ -21,14 +23,15 @@ mod trays;
 
 use arrivals::Arrivals;
 use cases::Cases;
+use counts::{Fate, Journey};
 use head_bits::{HeadBits, Ignored, SetBits};
 use hearing::{Heard, Hearing, Spoken};
-use inputs::{Draft, Faults, FLAT_13, FLAT_14, FLAT_16, FLAT_21};
+use inputs::{Draft, Faults, COUNT_MAX, FIRST_COUNT, FLAT_13, FLAT_14, FLAT_16, FLAT_21};
 use lent::Lent;
 use lines::Reading;
 use pelgrant_host::abi::Card;
 use pelgrant_host::document::{Coding, Departure};
-use pelgrant_host::flat::Document;
+use pelgrant_host::flat::{Document, RECORD};
 use pelgrant_host::queue::{Room, QUEUE, TOTALS};
 use pelgrant_host::random::Random;
 use pelgrant_host::tray::{frame_by_frame, Passed};
@@ -51,6 +54,10 @@ const TRAYS: u64 = 10;
 const TRAYS_OTHERWISE: u64 = 50;
 /// Calls of a sequence on one waiting room.
 const SEQUENCE: u64 = 2000;
+/// Calls of a sequence on one endpoint's record, and the ms within which the next comes: so few, too, that more and
+/// more are due too far ahead.
+const ARRIVALS: [u64; 4] = [1, 4, 30, 300];
+const PACES: [u64; 3] = [4, 16, 40];
 const SEED: u64 = 764;
 const SHOWN: u64 = 10;
 
@@ -60,8 +67,9 @@ struct Run {
     chains: u64,
     different: u64,
     /// The record that the last arrival left, so that whole bursts are played and not only single frames.
-    carried: [u64; 6],
+    carried: [u64; RECORD],
     arrivals: Arrivals,
+    count_cases: counts::Cases,
     head_bits: HeadBits,
     hearing: Hearing,
     /// The watch that the last event left.
@@ -101,9 +109,10 @@ impl Run {
         let difference = right.difference(&found);
         let same = right_number == found_number && difference.is_none();
         let outcome = flat.unwrap_or(right_number.into());
-        let holds = hearing::holds(call, outcome, &lent, &right);
+        let holds = hearing::holds(call, outcome, &lent, &right) && counts::holds(call, outcome, &lent, &right);
         if same && holds {
             self.hearing.met(call, outcome, &lent);
+            self.count_cases.met(call, outcome, &lent);
         } else {
             self.differs(|| {
                 println!("different: {}, numbers {numbers:?}", call.name());
@@ -301,102 +310,167 @@ impl Run {
     }
 
     fn fresh(&mut self) {
-        let random = &mut self.random;
-        let faults = Faults::among(random, Call::Fresh.order());
-        let build_out = random.octet();
-        let length = if faults.has(FLAT_14) { random.pick(&[0, 1, 5, 7, 12]) } else { 6 };
-        let lent = Lent { record: lent::slots(random, length), ..Lent::default() };
-        self.compare(Call::Fresh, flat(faults), &[build_out.into()], lent, |calls, lent| {
-            calls.fresh(build_out, lent.record.part_mut())
-        });
+        let faults = Faults::among(&mut self.random, Call::Fresh.order());
+        let build_out = self.random.octet();
+        self.fresh_numbers(build_out, faults);
     }
 
-    /// A record, a clock and a frame that mostly suit each other.
-    fn arrival(&mut self, faults: Faults) -> (Vec<u64>, u64, Vec<u8>) {
+    fn fresh_record(&mut self, build_out: u8) -> [u64; RECORD] {
+        self.fresh_numbers(build_out, Faults::NONE).try_into().expect("as many numbers as a record has")
+    }
+
+    fn fresh_numbers(&mut self, build_out: u8, faults: Faults) -> Vec<u64> {
         let random = &mut self.random;
+        let length = inputs::record_length(random, faults.has(FLAT_14));
+        let lent = Lent { record: lent::slots(random, length), ..Lent::default() };
+        let fresh = |calls: &dyn Calls, lent: &mut Lent| calls.fresh(build_out, lent.record.part_mut());
+        let (_, after) = self.compare(Call::Fresh, flat(faults), &[build_out.into()], lent, fresh);
+        after.record.part().to_vec()
+    }
+
+    /// A record, a clock and a frame that mostly suit each other. Where the call may have changed the record, it is gone
+    /// on with.
+    fn arrive(&mut self, call: Call) {
+        let random = &mut self.random;
+        let faults = Faults::among(random, call.order());
         let carry_on = !faults.has(14) && self.carried[2] < inputs::CLOCK_MAX && random.one_in(2);
         let record = if carry_on { self.carried } else { inputs::record(random, faults.has(14)) };
         let clock = match carry_on && !faults.has(18) {
             true => record[2] + random.below(33),
             false => inputs::clock(random, &record, faults.has(18)),
         };
-        let frame = if random.one_in(4) {
-            inputs::frame(random)
-        } else if faults.has(19) {
-            Draft::signalling(random, faults).octets(random)
-        } else {
-            let mut draft = Draft::voice(random, faults);
-            let build_out = record[0].min(199) as u8;
-            if !faults.has(9) {
-                let in_time = random.octet_below(u16::from(build_out) + 1);
-                let late = build_out + 1 + random.octet_below(200 - u16::from(build_out));
-                draft.head[5] = match faults.has(17) {
-                    true => random.pick(&[build_out + 1, 200, late]),
-                    false => random.pick(&[0, build_out, in_time, in_time]),
-                };
-            }
-            if !random.one_in(4) {
-                draft.head[7] = (record[1] as u8) << 4 | draft.head[7] & 15;
-            }
-            draft.octets(random)
-        };
-        let mut record = record.to_vec();
-        if faults.has(FLAT_14) {
-            record.resize(random.pick(&[0, 1, 5, 7, 12]), 0);
-        }
-        (record, clock, frame)
-    }
-
-    fn arrive(&mut self) {
-        let faults = Faults::among(&mut self.random, Call::Arrive.order());
-        let (record, clock, frame) = self.arrival(faults);
-        let (answer, samples) = self.answer_and_samples(hearing::slots(Call::Arrive), faults);
-        let random = &mut self.random;
-        let (lent_record, lent_frame) = (lent::numbers(random, &record), lent::octets(random, &frame));
-        let lent = Lent { record: lent_record, frame: lent_frame, answer, samples, ..Lent::default() };
-        let (number, after) = self.compare(Call::Arrive, flat(faults), &[clock], lent, |calls, lent| {
-            calls.arrive(
-                lent.record.part_mut(),
-                lent.frame.part(),
-                clock,
-                lent.answer.part_mut(),
-                lent.samples.part_mut(),
-            )
-        });
-        self.arrived(Call::Arrive, flat(faults), number, &record, &frame, after.record.part());
-    }
-
-    fn arrive_value(&mut self) {
-        let faults = Faults::among(&mut self.random, Call::ArriveValue.order());
-        let (record, clock, frame) = self.arrival(faults);
-        let random = &mut self.random;
-        // One of the three slices is too short, or more.
-        let short_after = faults.has(FLAT_16) && random.one_in(2);
-        let others = if short_after && random.one_in(2) { Faults::NONE } else { faults };
-        let after_length = inputs::room(random, 6, short_after);
-        let after = lent::slots(random, after_length);
-        let (lent_record, lent_frame) = (lent::numbers(random, &record), lent::octets(random, &frame));
-        let (answer, samples) = self.answer_and_samples(hearing::slots(Call::ArriveValue), others);
-        let lent = Lent { record: lent_record, after, frame: lent_frame, answer, samples, ..Lent::default() };
-        let (number, after) = self.compare(Call::ArriveValue, flat(faults), &[clock], lent, |calls, lent| {
-            calls.arrive_value(
-                lent.record.part(),
-                lent.frame.part(),
-                clock,
-                lent.after.part_mut(),
-                lent.answer.part_mut(),
-                lent.samples.part_mut(),
-            )
-        });
-        self.arrived(Call::ArriveValue, flat(faults), number, &record, &frame, after.after.part());
-    }
-
-    /// Counts an arrival, and goes on with the record where the call may have changed it.
-    fn arrived(&mut self, call: Call, flat: Option<usize>, number: u8, record: &[u64], frame: &[u8], after: &[u64]) {
-        self.arrivals.met(call, flat.unwrap_or(number.into()), record, frame);
+        let frame = inputs::arriving(random, &record, faults);
+        let (number, after) = self.arrive_at(call, faults, &record, clock, &frame);
         if number == 0 || arrivals::stores(number.into()) {
-            self.carried.copy_from_slice(&after[..6]);
+            self.carried = after;
         }
+    }
+
+    /// One arrival by either call. Gives the number and the record after it, which is the one before where the flat form
+    /// has something against the call.
+    fn arrive_at(
+        &mut self, call: Call, faults: Faults, record: &[u64; RECORD], clock: u64, frame: &[u8],
+    ) -> (u8, [u64; RECORD]) {
+        let random = &mut self.random;
+        let by_value = call == Call::ArriveValue;
+        // By value one of three slices is too short, or more.
+        let short_after = by_value && faults.has(FLAT_16) && random.one_in(2);
+        let others = if short_after && random.one_in(2) { Faults::NONE } else { faults };
+        let after_length = inputs::room(random, RECORD, short_after);
+        let after = if by_value { lent::slots(random, after_length) } else { lent::Guarded::default() };
+        let numbers = inputs::lent_record(random, record, faults);
+        let (lent_record, lent_frame) = (lent::numbers(random, &numbers), lent::octets(random, frame));
+        let (answer, samples) = self.answer_and_samples(hearing::slots(call), others);
+        let lent = Lent { record: lent_record, after, frame: lent_frame, answer, samples, ..Lent::default() };
+        let (number, left) = self.compare(call, flat(faults), &[clock], lent, |calls, lent| {
+            let Lent { record, after, frame, answer, samples, .. } = lent;
+            let (frame, answer, samples) = (frame.part(), answer.part_mut(), samples.part_mut());
+            match by_value {
+                true => calls.arrive_value(record.part(), frame, clock, after.part_mut(), answer, samples),
+                false => calls.arrive(record.part_mut(), frame, clock, answer, samples),
+            }
+        });
+        self.arrivals.met(call, flat(faults).unwrap_or(number.into()), &numbers, frame);
+        if flat(faults) == Some(FLAT_14) && numbers.len() == RECORD {
+            self.count_cases.met_unfit(call, &numbers, frame, clock);
+        }
+        let left = if by_value { left.after } else { left.record };
+        let after = left.part().first_chunk().filter(|_| flat(faults).is_none());
+        (number, *after.unwrap_or(record))
+    }
+
+    /// Every pair of RSEQ and sequence, scheduled by either call.
+    fn every_pair(&mut self) {
+        for call in counts::ARRIVALS {
+            for (rseq, sequence) in (0..16).flat_map(|rseq| (0..16).map(move |sequence| (rseq, sequence))) {
+                let (record, clock, frame) = counts::to_schedule(&mut self.random, rseq, sequence);
+                let (number, _) = self.arrive_at(call, Faults::NONE, &record, clock, &frame);
+                if number != 0 {
+                    self.differs(|| {
+                        println!("different: {} of a frame that is to be scheduled answers {number}", call.name());
+                        println!("  record {record:?}, clock {clock}, frame {frame:?}");
+                    });
+                }
+            }
+        }
+    }
+
+    /// A sequence of arrivals from a fresh record on, each handed the record as the last one left it: the counts are
+    /// those taken from the list of all calls. Half of the times the host sets the counts first.
+    fn count_in_turn(&mut self) {
+        let build_out = self.random.octet_below(200);
+        let mut record = self.fresh_record(build_out);
+        let random = &mut self.random;
+        if random.one_in(2) {
+            let likely = [COUNT_MAX - 100, COUNT_MAX - 2, COUNT_MAX - 1, COUNT_MAX, 7, 0];
+            record[FIRST_COUNT..].fill_with(|| random.pick(&likely));
+        }
+        let (began, mut calls) = (counts::counts_of(&record), Vec::new());
+        let (times, pace) = (random.pick(&ARRIVALS), random.pick(&PACES));
+        for _ in 0..times {
+            let random = &mut self.random;
+            let call = random.pick(&counts::ARRIVALS);
+            let faults = Faults::among(random, call.order()).but(14);
+            let clock = match faults.has(18) {
+                true => inputs::clock(random, &record, true),
+                false => inputs::clock_on(random, &record, pace),
+            };
+            let frame = inputs::arriving(random, &record, faults);
+            let (number, after) = self.arrive_at(call, faults, &record, clock, &frame);
+            record = after;
+            calls.push((number, frame));
+        }
+        let (ended, right) = (counts::counts_of(&record), counts::taken_from_list(began, &calls));
+        if ended == right {
+            self.count_cases.met_sequence(began, ended, &calls);
+        } else {
+            self.differs(|| {
+                println!("different: the counts of a sequence are {ended:?}, by the list {right:?}");
+                println!("  from {began:?} on, build-out {build_out}, calls {calls:?}");
+            });
+        }
+    }
+
+    /// Packets that the card makes as one origin come in their order and once each, unless they are lost on the way:
+    /// missing is never more than was not scheduled.
+    fn journey(&mut self) {
+        let mut journey = Journey::draw(&mut self.random);
+        let build_out = journey.build_out;
+        let mut record = self.fresh_record(build_out);
+        let mut sseq = 0;
+        for _ in 0..journey.packets {
+            let random = &mut self.random;
+            let sequence = sseq;
+            let (step, fate) = journey.next(random, sseq);
+            let coding = random.pick(&inputs::LEGAL_CODINGS);
+            let wait = match fate {
+                Fate::ComesLate => u32::from(build_out) + 1,
+                _ => random.below(u64::from(build_out) + 1) as u32,
+            };
+            let mut frame =
+                written(|out, length| Card.send(&mut sseq, step, coding, 9, &[1; 128], 0, 0, wait, 128, out, length))
+                    .expect("a frame of the origin");
+            if fate == Fate::ComesDamaged {
+                // Of the head, which the check covers.
+                let bit = random.size_below(64);
+                frame[bit / 8] ^= 1 << (bit % 8);
+            }
+            journey.sent(step, sequence, fate);
+            if fate == Fate::IsLost {
+                continue;
+            }
+            let (call, clock) = (random.pick(&counts::ARRIVALS), counts::clock_in_time(random, &record));
+            let (number, after) = self.arrive_at(call, Faults::NONE, &record, clock, &frame);
+            record = after;
+            let (counted, scheduled) = (counts::counts_of(&record), number == 0);
+            if scheduled != (fate == Fate::Comes) || !journey.is_counted(counted) {
+                self.differs(|| {
+                    println!("different: a journey, {fate:?} answers {number}, counts {counted:?}\n  {journey:?}");
+                });
+                return;
+            }
+        }
+        self.count_cases.met_journey(&journey, counts::counts_of(&record));
     }
 
     fn signal_read(&mut self) {
@@ -604,8 +678,7 @@ impl Run {
             Call::ForwardTray => self.forward_tray(),
             Call::Read => self.read(),
             Call::Fresh => self.fresh(),
-            Call::Arrive => self.arrive(),
-            Call::ArriveValue => self.arrive_value(),
+            Call::Arrive | Call::ArriveValue => self.arrive(call),
             Call::SignalRead => self.signal_read(),
             Call::Fill => self.fill(),
             Call::NoiseLevel => self.noise_level(),
@@ -1040,8 +1113,9 @@ fn main() -> ExitCode {
         tally: Tally::new(),
         chains: 0,
         different: 0,
-        carried: [100, 0, 0, 0, 0, 0],
+        carried: [100, 0, 0, 0, 0, 0, 0, 0, 0],
         arrivals: Arrivals::new(),
+        count_cases: counts::Cases::new(),
         head_bits: HeadBits::new(),
         hearing: Hearing::new(),
         watch: [16, 10_000, 25_000, 0, 0, 0, 0, 0, 0],
@@ -1067,6 +1141,9 @@ fn main() -> ExitCode {
     }
     (0..inputs.div_ceil(5000)).for_each(|_| run.set_bits());
     (0..inputs.div_ceil(1000)).for_each(|_| run.ignored_bits());
+    (0..inputs.div_ceil(50_000)).for_each(|_| run.every_pair());
+    (0..inputs.div_ceil(1000)).for_each(|_| run.count_in_turn());
+    (0..inputs.div_ceil(250)).for_each(|_| run.journey());
     (0..inputs / 10).for_each(|_| run.chain());
     (0..inputs / TRAYS_OTHERWISE).for_each(|_| run.tray_otherwise());
     (0..inputs / 50).for_each(|_| run.read_back());
@@ -1079,7 +1156,7 @@ fn main() -> ExitCode {
     println!("Seed {seed}; . where there can be none\n");
     let calls = ("Inputs by call and refusal", &run.tally.table);
     let mut amiss = Vec::new();
-    let others = run.arrivals.tables().into_iter().chain(run.head_bits.tables());
+    let others = run.arrivals.tables().into_iter().chain(run.count_cases.tables()).chain(run.head_bits.tables());
     let others = others.chain(run.cases.tables()).chain(run.line_cases.tables()).chain(run.queue_cases.tables());
     let others = others.chain(run.tray_cases.tables()).chain(run.hearing.tables());
     for (title, table) in std::iter::once(calls).chain(others) {
@@ -1088,6 +1165,9 @@ fn main() -> ExitCode {
         println!();
         amiss.extend(table.amiss());
     }
+    let [sequences, journeys] = run.count_cases.tried();
+    println!("Sequences of arrivals against the list of calls: {sequences}");
+    println!("Journeys of an origin's packets: {journeys}");
     println!("Chains of 0 to {} nodes against one node: {}", hearing::NODES, run.chains);
     println!("Lines of 1 to 8 frames read back: {}", run.read_back);
     println!("Lines read on behind any bits: {}", run.read_on);
@@ -1097,7 +1177,7 @@ fn main() -> ExitCode {
     }
     let failed = run.different + amiss.len() as u64;
     let others = run.head_bits.pairs() + run.tray_cases.tried_otherwise() + run.chains + run.read_back + run.read_on;
-    let compared = run.tally.total() + others;
+    let compared = run.tally.total() + sequences + journeys + others;
     println!("host: {compared} compared, {failed} different");
     if failed == 0 {
         ExitCode::SUCCESS
