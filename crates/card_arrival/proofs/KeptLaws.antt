@@ -1,5 +1,5 @@
 -- The arrival on a record of numbers: what its two calls answer and leave, and a record of which a number fits no field.
-use Prim.Native.Nat.{ℕ, _-_, _^_, _≤_}
+use Prim.Native.Nat.{ℕ, _≤_}
 use mathlib.Core.Path.{_≡_, refl, sym, ap, subst, _∙_}
 use mathlib.Core.Bool.{Bool, true, false, not, _||_}
 use mathlib.Core.List.{List, [], _∷_, _++_}
@@ -13,6 +13,7 @@ use Rattle.refusals.specs.Refusals.{_orElse_, ifTaken, refuse}
 use Rattle.refusals.proofs.RefusalLaws.{orElse-take, orElse-pass}
 use Rattle.endpoint.specs.Arrival.{frameDecision, resetOf, arrivalBy, arrivalOf}
 use Rattle.endpoint.specs.Outcome.{outcomeOf}
+use Rattle.playout.specs.Counts.{countLimit}
 use Rattle.playout.specs.Play.{recordBad, refusal14, playRefusal, decision}
 use Rattle.endpoint.specs.Read.{heardOf}
 use Rattle.playout.specs.declared.Endpoint.{Endpoint}
@@ -35,16 +36,16 @@ module _ (e : Endpoint) where
   abbrev pub unfit : Bool
   unfit =
       ltb 255 (e .buildout) || ltb 255 (e .rseq) || ltb 255 (e .mlast) || ltb 255 (e .lastnoise)
-      || ltb (2 ^ 32 - 1) (e .scheduled) || ltb (2 ^ 32 - 1) (e .late) || ltb (2 ^ 32 - 1) (e .missing)
+      || ltb countLimit (e .scheduled) || ltb countLimit (e .late) || ltb countLimit (e .missing)
 
   pub record Fits : Type 0 where
     pub buildout-fits : e .buildout ≤ 255
     pub rseq-fits : e .rseq ≤ 255
     pub mlast-fits : e .mlast ≤ 255
     pub noise-fits : e .lastnoise ≤ 255
-    pub scheduled-fits : e .scheduled ≤ 2 ^ 32 - 1
-    pub late-fits : e .late ≤ 2 ^ 32 - 1
-    pub missing-fits : e .missing ≤ 2 ^ 32 - 1
+    pub scheduled-fits : e .scheduled ≤ countLimit
+    pub late-fits : e .late ≤ countLimit
+    pub missing-fits : e .missing ≤ countLimit
 
   pub fitting : unfit ≡ false → Fits
   fitting h =
@@ -72,9 +73,9 @@ module _ (e : Endpoint) where
     go false k =
         let z : refusal14 e ≡ 0 = rw k in
         let p = in-range e z in
-        let s : Bool = ltb (2 ^ 32 - 1) (e .scheduled) in
-        let l : Bool = ltb (2 ^ 32 - 1) (e .late) in
-        let q = or-false (s || l) (ltb (2 ^ 32 - 1) (e .missing)) counts in
+        let s : Bool = ltb countLimit (e .scheduled) in
+        let l : Bool = ltb countLimit (e .late) in
+        let q = or-false (s || l) (ltb countLimit (e .missing)) counts in
         let o = or-false s l (q .0) in
         sym (simp (le-ltb 255 (e .buildout) (omega (arith, p .buildout-low)), le-ltb 255 (e .rseq) (omega (arith, p .rseq-low)), le-ltb 255 (e .mlast) (omega (arith, p .mlast-low)), le-ltb 255 (e .lastnoise) (omega (arith, p .noise-low)), o .0, o .1, q .1)) ∙ h
 
@@ -97,7 +98,7 @@ module _ (e : Endpoint) where
     unfolding numbersArrival
     fitting-is h =
         let p = fitting h in
-        simp (le-ltb (2 ^ 32 - 1) (e .scheduled) (p .scheduled-fits), le-ltb (2 ^ 32 - 1) (e .late) (p .late-fits), le-ltb (2 ^ 32 - 1) (e .missing) (p .missing-fits))
+        simp (le-ltb countLimit (e .scheduled) (p .scheduled-fits), le-ltb countLimit (e .late) (p .late-fits), le-ltb countLimit (e .missing) (p .missing-fits))
 
 -- ---- what is heard, put before what stood behind
 

@@ -1,5 +1,5 @@
 -- Document 01's calls on the endpoint's record as a host makes them, on numbers and on slices that it lends.
-use Prim.Native.Nat.{ℕ, _-_, _^_}
+use Prim.Native.Nat.{ℕ}
 use mathlib.Core.Bool.{Bool, not, _||_}
 use mathlib.Core.List.{List, [], _∷_}
 use lib.Dec.{ltb, eqb}
@@ -7,6 +7,7 @@ use lib.ListN.{length, getD, replicate}
 use Rattle.refusals.specs.Refusals.{ifTaken, refuse}
 use Rattle.endpoint.specs.Arrival.{arrivalOf}
 use Rattle.playout.specs.declared.Endpoint.{Endpoint}
+use Rattle.playout.specs.Counts.{countLimit}
 use Rattle.endpoint.specs.declared.Arrival.{Arrival}
 use Rattle.endpoint.specs.declared.Arrived.{Arrived}
 
@@ -42,7 +43,7 @@ refusedArrival n = record { refusal = n; due = 0; reset = 0; s = 0; dropped = 0;
 
 -- a count that fits no field, of which the arrival itself tests nothing
 abbrev pub countUnfit : Endpoint → Bool
-countUnfit e = ltb (2 ^ 32 - 1) (e .scheduled) || ltb (2 ^ 32 - 1) (e .late) || ltb (2 ^ 32 - 1) (e .missing)
+countUnfit e = ltb countLimit (e .scheduled) || ltb countLimit (e .late) || ltb countLimit (e .missing)
 
 -- the arrival on nine numbers: where a count is unfit 14, and the record as it came
 unfoldable pub numbersArrival : Endpoint → List ℕ → ℕ → Arrived

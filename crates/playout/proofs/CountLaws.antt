@@ -4,11 +4,11 @@ use mathlib.Core.Path.{_≡_, refl, ap, ap₂}
 use mathlib.Core.Bool.{Bool, cond}
 use native.Mathlib.Omega.{arith}
 use borrow.Author.Tests.{ne-eqb}
-use Rattle.playout.specs.Counts.{stopped, missingBetween}
+use Rattle.playout.specs.Counts.{countLimit, stopped, missingBetween}
 
 -- a sum of two numbers of 32 bits is below the first where it rolled over, and there alone
 module _ (count more sum : ℕ) (fits : count < 2 ^ 32) (small : more < 2 ^ 32) (is : sum ≡ (count + more) % 2 ^ 32) where
-  pub rolled-over : sum < count → 2 ^ 32 - 1 ≡ stopped (count + more)
+  pub rolled-over : sum < count → countLimit ≡ stopped (count + more)
   rolled-over h = omega arith
 
   pub not-rolled : count ≤ sum → sum ≡ stopped (count + more)

@@ -4,8 +4,11 @@ use mathlib.Core.Bool.{cond}
 use lib.Dec.{eqb}
 
 -- each count stops at 2^32-1
+abbrev pub countLimit : ℕ
+countLimit = 2 ^ 32 - 1
+
 abbrev pub stopped : ℕ → ℕ
-stopped n = min n (2 ^ 32 - 1)
+stopped n = min n countLimit
 
 -- late counts refusal 17, and no other
 abbrev pub lateAfter : ℕ → ℕ → ℕ
