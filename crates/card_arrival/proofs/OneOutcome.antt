@@ -1,15 +1,12 @@
--- Of each exported call on a record, two outcomes that the promise allows are equal: its number, and every slice that is lent.
+-- Of each exported arrival, two outcomes that the promise allows are equal: its number, and every slice that is lent.
 use Prim.Native.Nat.{ℕ}
 use mathlib.Core.List.{List}
 use lib.ListN.{length}
 use Rattle.refusals.specs.Refusals.{_orElse_}
-use Rattle.playout.specs.Play.{freshRecord}
 use Rattle.card.specs.Card.{written}
 use Rattle.card.proofs.OneOutcome.{One, one, Answers, answers}
-use Rattle.card_arrival.specs.Kept.{arrivalNumbers, recordNumbers, recordRefusal, keptArrival, keptAfter}
-
-pub fresh-one : (b : ℕ) (kept : List ℕ) → One (recordRefusal (length kept)) × One (written (recordRefusal (length kept)) (recordNumbers (freshRecord b)) kept)
-fresh-one b kept = (one _, one _)
+use Rattle.card_record.specs.Record.{arrivalNumbers, recordRefusal}
+use Rattle.card_arrival.specs.Kept.{keptArrival, keptAfter}
 
 -- `flat` is what the slices of each of the two arrival calls give, and `slot` where it puts the record after
 pub arrive-one : (flat clock : ℕ) (kept f slot answer samples : List ℕ)

@@ -1,7 +1,7 @@
 use mathlib.Core.Path.{refl}
 use native.Mathlib.Omega.{arith}
-use Rattle.card_arrival.proofs.record_numbers.Statement.{statement}
-use Rattle.card_arrival.proofs.record_numbers.Tie as tie
+use Rattle.card_record.proofs.record_numbers.Statement.{statement}
+use Rattle.card_record.proofs.record_numbers.Tie as tie
 
 cast-t2 : tie.Need-cast-t2
 cast-t2 c = omega arith

@@ -1,10 +1,10 @@
--- `card_arrival::arrival` meets its contract.
+-- `card_record::arrival` meets its contract.
 use native.Mathlib.Omega.{arith}
 use Rattle.endpoint.proofs.ArrivalLaws.{outcome-readable}
-use Rattle.card_arrival.specs.Kept.{recordWith}
-use Rattle.card_arrival.proofs.KeptLaws.{Fits, fitting, by-unfit, by-outcome}
-use Rattle.card_arrival.proofs.arrival.Statement.{statement}
-use Rattle.card_arrival.proofs.arrival.Tie as tie
+use Rattle.card_record.specs.Record.{recordWith}
+use Rattle.card_record.proofs.RecordLaws.{Fits, fitting, by-unfit, by-outcome}
+use Rattle.card_record.proofs.arrival.Statement.{statement}
+use Rattle.card_record.proofs.arrival.Tie as tie
 
 -- each number fits its field, where none was found that does not
 fits : (c : tie.Else1) → let a = c .before .before .before .before .before .args in Fits (recordWith (a .buildout) (a .rseq) (a .lastclock) (a .end) (a .mlast) (a .lastnoise) (a .scheduled) (a .late) (a .missing))

@@ -1,9 +1,9 @@
--- `card_arrival::no_record` meets its contract.
+-- `card_record::no_record` meets its contract.
 use mathlib.Core.Path.{refl}
 use native.Mathlib.Omega.{arith}
-use Rattle.card_arrival.proofs.KeptLaws.{put-none}
-use Rattle.card_arrival.proofs.no_record.Statement.{statement}
-use Rattle.card_arrival.proofs.no_record.Tie as tie
+use Rattle.card_record.proofs.RecordLaws.{put-none}
+use Rattle.card_record.proofs.no_record.Statement.{statement}
+use Rattle.card_record.proofs.no_record.Tie as tie
 
 slice-aggregate-put : tie.Need-slice-aggregate-put
 slice-aggregate-put c = refl

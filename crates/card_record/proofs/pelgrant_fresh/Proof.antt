@@ -4,11 +4,11 @@ use mathlib.Core.List.{List}
 use mathlib.Core.Path.{sym, ap, _∙_}
 use lib.ListN.{length}
 use Rattle.card.specs.Card.{put}
-use Rattle.card_arrival.specs.Kept.{recordNumbers}
+use Rattle.card_record.specs.Record.{recordNumbers}
 use Rattle.card.proofs.CardLaws.{within, left-alone, answered}
-use Rattle.card_arrival.proofs.KeptLaws.{nine-room}
-use Rattle.card_arrival.proofs.pelgrant_fresh.Statement.{statement}
-use Rattle.card_arrival.proofs.pelgrant_fresh.Tie as tie
+use Rattle.card_record.proofs.RecordLaws.{nine-room}
+use Rattle.card_record.proofs.pelgrant_fresh.Statement.{statement}
+use Rattle.card_record.proofs.pelgrant_fresh.Tie as tie
 
 refuse-requires : tie.Need-refuse-requires
 refuse-requires c κs = tt
