@@ -19,7 +19,9 @@ use Rattle.playout.specs.Counts.{stopped, missingBetween}
 use Rattle.playout.specs.Play.{freshRecord, rseqAfter}
 use Rattle.playout.proofs.CountLaws.{missing-first, missing-stop, missing-on}
 use Rattle.endpoint.specs.Calls.{Call, recordAfter}
-use Rattle.counts.specs.Counted.{Packet, scheduledPackets, missingAmong}
+use Rattle.chain.specs.Chain.{Origin, refusedAt, sent, Node, chain, AllReady}
+use Rattle.chain.proofs.ChainLaws.{arrives}
+use Rattle.counts.specs.Counted.{Packet, packetOf, scheduledPackets, missingAmong}
 use Rattle.counts.proofs.CountedLaws.{fresh-counts}
 use Rattle.counts.specs.Sent.{packetSent, packetsSent, Turn, packetsScheduled, packetsUnscheduled}
 
@@ -181,6 +183,10 @@ least r hr s hs = (
 )
 
 -- ---- over all that an origin sends
+
+-- what a call of `origin::send` sends arrives, however many nodes send it on, as the packet of its step
+pub packet-arrives : (o : Origin) → refusedAt o ≡ 0 → (ns : List Node) → AllReady 0 ns (sent o) → packetOf (chain ns (sent o)) ≡ packetSent (o .step) (o .sseq)
+packet-arrives o z ns ready = let a = arrives o z ns ready in ap₂ (λ (s m : ℕ). record { sequence = s; more = m }) (a .0) (a .1)
 
 -- one step of them, where k packets were sent since RSEQ was set and none of them was scheduled: it is scheduled, it is not, or it is out of turn
 module _ (r x k : ℕ) (turn : Turn) (turns : List Turn) (hr : r ≤ 15) (hx : x ≤ 15) (h : missingBetween r x ≤ k) where

@@ -141,7 +141,8 @@ fn missing_between(r: u8, s: u8) -> u32
     if went_on <= began { went_on } else { began }
 }
 
-// A frame that is late, or due too far ahead, was received all the same: it stores its more bit and noise. Late counts 17 alone.
+// A frame that is late, or due too far ahead, was received all the same: it stores its more bit and noise. The late one is
+// counted.
 fn refused(e: Endpoint, n: u8, more: u8, noise: u8) -> Decision
     ensures { λ r. ⌜ r ≡ refusedWith e n more noise ⌝ }
 {
