@@ -1,4 +1,6 @@
 // Total helpers on octets and numbers: code that uses them reads as its definition does.
+#![tactic(auto)]
+
 ghost use Rattle.std.specs.Prelude.{◌≡◌, ◌++◌, cond, ◌-◌, ◌<◌, ◌≤◌, min, length, drop, get_or};
 ghost use Rattle.octets.specs.Octets.{two};
 ghost use Rattle.octets.specs.Sequence.{next_number};
