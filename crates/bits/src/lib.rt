@@ -1,4 +1,6 @@
 // Octets as bits, the lowest of each octet first: read many at a time, and stored an octet at a time.
+#![tactic(auto)]
+
 ghost use Rattle.std.specs.Prelude.{◌≡◌, ◌++◌, ◌+◌, ◌*◌, ◌/◌, ◌^◌, ◌<◌, ◌≤◌, length, take, drop};
 ghost use Rattle.bits.specs.Bits.{bits, value, lowest, octets_of};
 
