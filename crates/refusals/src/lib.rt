@@ -1,4 +1,6 @@
 // The refusal numbers, and the first of an order.
+#![tactic(auto)]
+
 ghost use Rattle.std.specs.Prelude.{◌≡◌};
 ghost use Rattle.refusals.specs.Refusals.{◌or_else◌, refuse, refusal1, refusal10, refusal12, refusal15, refusal16, address_bad};
 
