@@ -1,4 +1,6 @@
 // The check sequence of ISO 3309: worked out over octets, tested on a frame, and put into one.
+#![tactic(auto)]
+
 ghost use Rattle.std.specs.Prelude.{◌≡◌, [], ◌∷◌, ◌++◌, ℕ, ◌+◌, ◌/◌, ◌%◌, ◌<◌, ◌≤◌, length, take, drop};
 ghost use Rattle.fcs.specs.Fcs.{fcs_bits, fcs_run, fcs_of, fcs_octets, fcs_good};
 
