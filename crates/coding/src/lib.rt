@@ -1,4 +1,6 @@
 // The facts that every coding type carries, from Figure 5 and Table 3, and the noise levels.
+#![tactic(auto)]
+
 ghost use Rattle.std.specs.Prelude.{◌≡◌, ◌*◌, ◌/◌, ◌%◌, ◌^◌, ◌<◌, ◌≤◌};
 ghost use Rattle.coding.specs.Coding.{sample_bits, droppable_bits, reset_bit, reserved, frame_length, refusal6};
 ghost use Rattle.coding.specs.Digits.{digits_of, digit_at, Digits};

@@ -11,8 +11,7 @@ use Rattle.octets.proofs.TabLaws.{agree}
 use Rattle.coding.specs.Noise.{tenths, tenth, noise_of, paper}
 use Rattle.coding.specs.declared.Noise.{Noise}
 use Rattle.coding.specs.declared.Noise.TheVariants.{Idle, Level}
-use Rattle.coding.proofs.noise_level.Statement.{statement}
-use Rattle.coding.proofs.noise_level.Tie as tie
+use Rattle.coding.proofs.noise_level.Goals as goal
 
 -- what the code computes of a number of tenths, and that it is the double that the paper wants
 abbrev coded : ℕ → Float
@@ -22,10 +21,10 @@ levels : tab (λ k. coded (tenths k)) 16 ≡ tab (λ k. tenth (tenths k)) 16
 unfolding tab round div of_int of_bits
 levels = refl
 
-returns : tie.Need-returns
+pub returns-then-code-gt15 : goal.returns-then-code-gt15
 unfolding paper noise_of
-returns c =
-    let k = c.before.args.code in
+returns-then-code-gt15 c =
+    let k = c.args.code in
     let above : 16 ≤ k = omega arith in
     simp (lt-ltb 15 k above, ne_eqb k 0 (λ e. omega arith), get_or-eq_default)
 
@@ -34,25 +33,12 @@ idle_is : (code : ℕ) (r : Noise) → code ≡ 0 → r ≡ Idle → paper r ≡
 unfolding paper noise_of
 idle_is code r z e = ap paper e ∙ sym (ap noise_of z)
 
-returns-2 : tie.Need-returns-2
-returns-2 c = idle_is c.before.before.args.code _ c.if2.true refl
+pub returns-then-code-eq0 : goal.returns-then-code-eq0
+returns-then-code-eq0 c = idle_is c.args.code _ c.if-code-eq0.true refl
 
-mul-t : tie.Need-overflow-mul-t
-mul-t c = omega arith
-
-array-read-t : tie.Need-array-read-t
-array-read-t c = omega arith
-
-int-to-float-t10 : tie.Need-int-to-float-t10
-int-to-float-t10 c = search rules
-
-returns-3 : tie.Need-returns-3
+pub returns : goal.returns
 unfolding paper noise_of
-returns-3 c =
-    let k = c.before.before.before.args.code in
-    simp (le-ltb 15 k (omega arith), ne_eqb k 0 c.before.if2.false)
+returns c =
+    let k = c.args.code in
+    simp (le-ltb 15 k (omega arith), ne_eqb k 0 c.if-code-eq0.false)
     (ap (λ x. paper (Level x)) (agree (λ n. coded (tenths n)) (λ n. tenth (tenths n)) 16 levels k (omega arith)))
-
-pub noise_level_spec : {M : Type 1} → statement M
-noise_level_spec =
-    tie.close (tie.spec returns returns-2 mul-t array-read-t int-to-float-t10 returns-3)
