@@ -72,7 +72,7 @@ pub extern "C" fn pelgrant_fill<'a>(
 }
 
 // The noise answer without its enum.
-#[derive(Drop)]
+#[derive(Clone, Copy)]
 struct NoiseFacts {
     number: u8,
     idle: bool,

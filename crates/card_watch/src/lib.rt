@@ -168,7 +168,7 @@ fn event_numbered(event: u8, bits: u8, flag: u8) -> Event
 }
 
 // What an event answers, and the watch after it, as numbers.
-#[derive(Drop)]
+#[derive(Clone, Copy)]
 struct KeptTell {
     refusal: u8,
     numbers: [u64; 4],

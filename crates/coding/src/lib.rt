@@ -30,7 +30,7 @@ fn long(x: u8) -> u64
 }
 
 // A table as two such numbers. Each table has a function for them: the compiler works out only what takes no argument.
-#[derive(Drop)]
+#[derive(Clone, Copy)]
 struct Halves {
     low: u64,
     high: u64,
@@ -55,7 +55,7 @@ fn entry(h: Halves, t: u8) -> u8
     digit(h.high, t)
 }
 
-#[derive(Drop)]
+#[derive(Clone, Copy)]
 pub struct Coding(pub u8);
 
 // A reserved type has 0 in each table. Beside each entry stands its type.
@@ -240,7 +240,7 @@ pub const NOISE_TENTHS: [u16; 16] = [
     0, 166, 197, 226, 249, 269, 290, 310, 328, 346, 362, 379, 397, 416, 438, 466,
 ];
 
-#[derive(Drop)]
+#[derive(Clone, Copy)]
 pub enum Noise {
     Idle,
     Level(f64),

@@ -34,7 +34,7 @@ pub fn fresh(buildout: u8) -> Endpoint
 }
 
 // What is told of a frame whose refusal is n beside its samples.
-#[derive(Drop)]
+#[derive(Clone, Copy)]
 pub struct Told {
     pub s: u8,
     pub dropped: u8,
@@ -95,7 +95,7 @@ pub fn hear_into(n: u8, frame: &[u8], samples: &mut [u8])
     blocks_into(&*frame, samples);
 }
 
-#[derive(Drop)]
+#[derive(Clone, Copy)]
 pub struct Heard {
     pub refusal: u8,
     pub s: u8,
@@ -121,7 +121,7 @@ pub fn read(frame: &[u8]) -> Heard
     }
 }
 
-#[derive(Drop)]
+#[derive(Clone, Copy)]
 pub struct Arrival {
     pub refusal: u8,
     pub due: u64,
@@ -132,7 +132,7 @@ pub struct Arrival {
     pub samples: [u8; 128],
 }
 
-#[derive(Drop)]
+#[derive(Clone, Copy)]
 pub struct Arrived {
     pub answer: Arrival,
     pub after: Endpoint,
@@ -177,7 +177,7 @@ fn decide_frame(e: Endpoint, frame: &[u8], clock: u64) -> Decision
 }
 
 // What an arrival answers beside its samples, and the record after it.
-#[derive(Drop)]
+#[derive(Clone, Copy)]
 pub struct Outcome {
     pub refusal: u8,
     pub due: u64,
@@ -258,7 +258,7 @@ pub fn arrive(e: &mut Endpoint, frame: &[u8], clock: u64) -> Arrival
     a.answer
 }
 
-#[derive(Drop)]
+#[derive(Clone, Copy)]
 pub struct SignalHeard {
     pub refusal: u8,
     pub bits: u8,

@@ -277,7 +277,7 @@ pub fn signal_refusal(frame: &[u8]) -> u8
     )
 }
 
-#[derive(Drop)]
+#[derive(Clone, Copy)]
 pub struct LinkFacts {
     pub refusal: u8,
     pub voice: bool,
@@ -303,7 +303,7 @@ pub fn link(frame: &[u8]) -> LinkFacts
     }
 }
 
-#[derive(Drop)]
+#[derive(Clone, Copy)]
 pub struct TakenFacts {
     pub refusal: u8,
     pub voice: bool,

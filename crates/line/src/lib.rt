@@ -11,14 +11,14 @@ ghost use Rattle.line.specs.Calls.{past, over, add_refusal, add_answer, add_bits
 use refusals::or_else;
 use zeros::Held;
 
-#[derive(Drop)]
+#[derive(Clone, Copy)]
 pub struct Added {
     pub refusal: u8,
     pub count: usize,
 }
 
 // found: a frame was copied out. Without it and with refusal 0, there is no frame.
-#[derive(Drop)]
+#[derive(Clone, Copy)]
 pub struct TakenOff {
     pub refusal: u8,
     pub found: bool,

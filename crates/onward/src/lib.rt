@@ -4,7 +4,7 @@ ghost use Rattle.octets.specs.Octets.{octet};
 ghost use Rattle.onward.specs.Onward.{wait_of, stamp_after, dropped, onward_head, onward};
 
 // What a call that writes a frame answers: the refusal, or 0 and the length of the frame.
-#[derive(Drop)]
+#[derive(Clone, Copy)]
 pub struct Sent {
     pub refusal: u8,
     pub length: usize,

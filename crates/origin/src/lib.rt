@@ -11,7 +11,7 @@ use onward::Sent;
 use refusals::{or_else, refuse};
 
 // A burst is one START, any number of DATA, and a STOP.
-#[derive(Drop)]
+#[derive(Clone, Copy)]
 pub enum Step {
     Start,
     Data,

@@ -4,7 +4,7 @@
 use trunk::event_of;
 use watch::{Conditioning, Event, Originating, Sends, Terminating, Watch, Watched};
 
-#[derive(Drop)]
+#[derive(Clone, Copy)]
 struct Line {
     west: Watch,
     east: Watch,

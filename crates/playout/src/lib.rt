@@ -12,7 +12,7 @@ const CLOCK_LIMIT: u64 = 4611686018427387904;
 // Each count stops at 2^32-1.
 const COUNT_LIMIT: u32 = 4294967295;
 
-#[derive(Drop)]
+#[derive(Clone, Copy)]
 pub struct Endpoint {
     pub buildout: u8,
     pub rseq: u8,
@@ -26,7 +26,7 @@ pub struct Endpoint {
 }
 
 // What is decided of a frame by its fields, and the record after it.
-#[derive(Drop)]
+#[derive(Clone, Copy)]
 pub struct Decision {
     pub refusal: u8,
     pub due: u64,

@@ -8,13 +8,13 @@ ghost use Rattle.queue.specs.Calls.{fresh_queue, enter_answer, take_answer};
 
 use room::{GivenBack, Queue};
 
-#[derive(Drop)]
+#[derive(Clone, Copy)]
 pub struct Entered {
     pub refusal: u8,
     pub after: Queue,
 }
 
-#[derive(Drop)]
+#[derive(Clone, Copy)]
 pub struct Taken {
     pub refusal: u8,
     pub length: usize,

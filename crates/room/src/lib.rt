@@ -13,7 +13,7 @@ use ring::place_after;
 
 // The record: the first frame's place in the store and its slot, how many wait, the length and clock reading in each slot, and
 // what levels 1, 2 and 3 would give back of all that wait.
-#[derive(Drop)]
+#[derive(Clone, Copy)]
 pub struct Queue {
     pub head: u32,
     pub first: u32,
@@ -24,7 +24,7 @@ pub struct Queue {
 }
 
 // What is known of a record once it is judged.
-#[derive(Drop)]
+#[derive(Clone, Copy)]
 pub struct Held {
     pub refusal: u8,
     pub used: u32,
@@ -56,7 +56,7 @@ fn judge(n: usize, head: u32, first: u32, count: u32, lengths: &[u32], totals: &
 }
 
 // What a frame that comes gets: the slot for it, and how many of its blocks the totals count.
-#[derive(Drop)]
+#[derive(Clone, Copy)]
 pub struct Spot {
     pub refusal: u8,
     pub slot: u32,
@@ -114,7 +114,7 @@ pub fn enter_by(
 }
 
 // What became of a frame that was to go, and how many blocks could be dropped from it as it waited.
-#[derive(Drop)]
+#[derive(Clone, Copy)]
 struct Gone {
     refusal: u8,
     length: usize,
@@ -158,7 +158,7 @@ fn send_on(
 }
 
 // What a take answers, the record's numbers that it changes, and the blocks by which the totals fall.
-#[derive(Drop)]
+#[derive(Clone, Copy)]
 pub struct Step {
     pub refusal: u8,
     pub length: usize,
@@ -234,7 +234,7 @@ pub fn take_by(
 }
 
 // What a question is answered with.
-#[derive(Drop)]
+#[derive(Clone, Copy)]
 pub struct GivenBack {
     pub refusal: u8,
     pub octets: u32,

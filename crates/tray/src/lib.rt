@@ -9,7 +9,7 @@ use octets::two_octets;
 use onward::Sent;
 
 // The refusal of the whole tray, the records counted, and the octets written.
-#[derive(Drop)]
+#[derive(Clone, Copy)]
 pub struct Forwarded {
     pub refusal: u8,
     pub records: usize,
@@ -29,7 +29,7 @@ fn record_size(rest: &[u8]) -> usize
 }
 
 // How many records a tray begins with, and where what is left begins.
-#[derive(Drop)]
+#[derive(Clone, Copy)]
 struct Records {
     count: usize,
     end: usize,

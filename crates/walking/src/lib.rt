@@ -12,7 +12,7 @@ use origin::Step;
 use playout::Endpoint;
 
 // What is carried on from record to record. A voice frame has at most 138 octets; length says how many of frame are it.
-#[derive(Drop)]
+#[derive(Clone, Copy)]
 struct State {
     number: u64,
     sseq: u8,
@@ -22,20 +22,20 @@ struct State {
 }
 
 // The numbers of a line: the first count of numbers.
-#[derive(Drop)]
+#[derive(Clone, Copy)]
 struct Told {
     count: usize,
     numbers: [u64; 7],
 }
 
-#[derive(Drop)]
+#[derive(Clone, Copy)]
 struct Outcome {
     state: State,
     told: Told,
 }
 
 // What a step leaves: how many octets of the input it took, where its line ends, and whether the walk goes on.
-#[derive(Drop)]
+#[derive(Clone, Copy)]
 struct Stepped {
     state: State,
     taken: usize,
@@ -325,7 +325,7 @@ fn step(state: State, rest: &[u8], out: &mut [u8], at: usize) -> Stepped
 }
 
 // Where the stream stands: octets from..have of the input's buffer are not taken yet, the first end of the output's not written.
-#[derive(Drop)]
+#[derive(Clone, Copy)]
 struct Flow {
     state: State,
     from: usize,

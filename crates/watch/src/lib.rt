@@ -9,14 +9,14 @@ use refusals::{or_else, refusal_12, refuse};
 const CLOCK_LIMIT: u64 = 4611686018427387904;
 
 // The states of the originating end, G.764 6.5.1.
-#[derive(Drop)]
+#[derive(Clone, Copy)]
 pub enum Originating {
     Norm,
     Alarm,
 }
 
 // The states of the terminating end, G.764 6.5.2.
-#[derive(Drop)]
+#[derive(Clone, Copy)]
 pub enum Terminating {
     Norm,
     LAlarm,
@@ -24,7 +24,7 @@ pub enum Terminating {
 }
 
 // A circuit's watch. Times are in ms; the clocks are those of the last frame sent, the last frame taken and the last event.
-#[derive(Drop)]
+#[derive(Clone, Copy)]
 pub struct Watch {
     pub states: u8,
     pub refresh: u32,
@@ -38,21 +38,21 @@ pub struct Watch {
 }
 
 // What a host tells of: time passing, the bits and the facility alarm as read, the N/A bit of a frame taken.
-#[derive(Drop)]
+#[derive(Clone, Copy)]
 pub enum Event {
     Passing,
     Reading { bits: u8, alarm: bool },
     Frame { na: u8 },
 }
 
-#[derive(Drop)]
+#[derive(Clone, Copy)]
 pub enum Sends {
     Nothing,
     Transition,
     Refresh,
 }
 
-#[derive(Drop)]
+#[derive(Clone, Copy)]
 pub enum Conditioning {
     Unchanged,
     Begins,
@@ -60,7 +60,7 @@ pub enum Conditioning {
 }
 
 // What an event answers: the frame to be sent with its bits and N/A, whether conditioning changes, and the watch after it.
-#[derive(Drop)]
+#[derive(Clone, Copy)]
 pub struct Watched {
     pub refusal: u8,
     pub sends: Sends,
@@ -71,7 +71,7 @@ pub struct Watched {
 }
 
 // What comes upon a circuit, by which the table goes.
-#[derive(Drop)]
+#[derive(Clone, Copy)]
 enum Coming {
     NoChange,
     RunOut,
@@ -83,7 +83,7 @@ enum Coming {
     RefreshDue,
 }
 
-#[derive(Drop)]
+#[derive(Clone, Copy)]
 struct Row {
     originating: Originating,
     terminating: Terminating,

@@ -23,7 +23,7 @@ fn behind(made: u64, n: usize, w: u64, k: usize) -> u64
 }
 
 // What the first of some bits become, `taken` of them: the n bits of `bits`.
-#[derive(Drop)]
+#[derive(Clone, Copy)]
 struct Piece {
     bits: u64,
     n: usize,
@@ -114,7 +114,7 @@ pub fn plain_length(s: &[u8], begin: usize, end: usize) -> usize
 }
 
 // Bits that do not make an octet yet: n of them, for the octet at `at`.
-#[derive(Drop)]
+#[derive(Clone, Copy)]
 pub struct Held {
     pub at: usize,
     pub bits: u64,
