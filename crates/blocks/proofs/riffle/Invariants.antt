@@ -1,0 +1,15 @@
+use mathlib.Core.Path.{◌≡◌, refl, ap, ◌∙◌}
+use mathlib.Core.List.{◌++◌}
+use Prim.Native.Nat.{ℕ, ◌*◌, ◌≤◌, ◌-◌}
+use native.Mathlib.Omega.{arith}
+use borrow.Author.Rules.{rules}
+use lib.ListN.{length, drop, length-set, replicate}
+use Rattle.octets.specs.Octets.{tab}
+use Rattle.blocks.proofs.RiffleLaws.{taken, riffled, taken_all, riffle_more}
+use Rattle.blocks.proofs.riffle.Given as goal
+
+abbrev pub invariant-loop-i : goal.invariant-loop-i
+invariant-loop-i l = (l.i ≤ 64) × (length l.initial.to ≡ 128) × (length l.to ≡ 128) × (l.to ≡ tab (taken riffled l.from) (2 * l.i) ++ drop (2 * l.i) l.initial.to)
+
+abbrev pub decreases-loop-i : goal.decreases-loop-i
+decreases-loop-i l = 64 - l.i
