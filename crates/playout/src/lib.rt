@@ -1,4 +1,6 @@
 // The play-out decision: when a frame is due, by its fields and the endpoint's record, or the number that refuses it.
+#![tactic(auto)]
+
 ghost use Rattle.std.specs.Prelude.{◌≡◌, ◌+◌, ◌≤◌, nat_lt};
 ghost use Rattle.playout.specs.Counts.{stopped, missing_between};
 ghost use Rattle.playout.specs.Play.{clock_limit, buildout_bad, refusal14, refusal18, in_turn, hold, due_at, stamp_late, refusal17, rseq_after, scheduled_at, refused_with, decision};
