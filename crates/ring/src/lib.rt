@@ -1,4 +1,6 @@
 // Rings: octets laid into a lent store from a place on, round its end, and read back; and the slots in use of 32, added.
+#![tactic(auto)]
+
 ghost use Rattle.std.specs.Prelude.{◌≡◌, cond, ◌+◌, ◌<◌, ◌≤◌, ◌^◌, length, take};
 ghost use Rattle.ring.specs.Ring.{place_after, turned, laid, used, sum};
 ghost use Rattle.ring.specs.Parts.{Slots};
