@@ -12,19 +12,15 @@ use Rattle.bits.specs.Bits.{lowest}
 use Rattle.zeros.specs.Parts.{zero_behind, places}
 use Rattle.bits.proofs.MarkLaws.{ones as run, join, one_marked, four, four_marked, zero_marked}
 use Rattle.zeros.proofs.CountLaws.{marked_places, places_le}
-use Rattle.zeros.proofs.zeros_behind.Statement.{statement}
-use Rattle.zeros.proofs.zeros_behind.Tie as tie
+use Rattle.zeros.proofs.zeros_behind.Goals as goal
 
-shl-zeros : tie.Need-overflow-shl-zeros
-shl-zeros c = omega arith
+pub overflow_sub-zeros : goal.overflow_sub-zeros
+overflow_sub-zeros c = let n : ℕ = c.args.n in omega (arith, shifted n (omega arith), pow_pos n)
 
-sub-zeros : tie.Need-overflow-sub-zeros
-sub-zeros c = let n : ℕ = c.args.n in omega (arith, shifted n (omega arith), pow_pos n)
+pub overflow_sub-zeros-2 : goal.overflow_sub-zeros-2
+overflow_sub-zeros-2 c = let n : ℕ = c.args.n in omega (arith, shifted n (omega arith))
 
-sub-zeros-2 : tie.Need-overflow-sub-zeros-2
-sub-zeros-2 c = let n : ℕ = c.args.n in omega (arith, shifted n (omega arith))
-
-counted : (c : tie.Start) → let n : ℕ = c.args.n in let w : ℕ = c.args.w in let zeros : ℕ = 1 * 2 ^ n % 18446744073709551616 - 1 - w in
+counted : (c : goal.Start) → let n : ℕ = c.args.n in let w : ℕ = c.args.w in let zeros : ℕ = 1 * 2 ^ n % 18446744073709551616 - 1 - w in
     ones (bit_and (bit_and (four w) (w / 2 ^ 4)) (zeros / 2 ^ 5)) ≡ places zero_behind (lowest n w)
 counted c =
     let n : ℕ = c.args.n in
@@ -33,14 +29,11 @@ counted c =
     let five = join (run 4) true (run 0) (four_marked n w fits) (one_marked n w fits) in
     marked_places (join (run 5) false [] five (zero_marked n w fits _ (ap (λ (x : ℕ). x - 1 - w) (shifted n (omega arith)))))
 
-cast-result : tie.Need-overflow-cast-result
-cast-result c =
+pub overflow_cast-result : goal.overflow_cast-result
+overflow_cast-result c =
     let n : ℕ = c.args.n in
     let w : ℕ = c.args.w in
     omega (arith, counted c, places_le zero_behind (lowest n w), length_lowest n w)
 
-returns : tie.Need-returns
+pub returns : goal.returns
 returns c = counted c
-
-pub zeros_behind_spec : {M : Type 1} → statement M
-zeros_behind_spec = tie.close (tie.spec shl-zeros sub-zeros sub-zeros-2 cast-result returns)

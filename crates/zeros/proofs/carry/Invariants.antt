@@ -1,0 +1,14 @@
+-- `zeros::carry` meets its contract: each turn pours a piece, and what is put and what is left are all.
+use Prim.Native.Nat.{ℕ, ◌+◌, ◌-◌, ◌≤◌}
+use mathlib.Core.Bool.{Bool}
+use mathlib.Core.List.{List}
+use native.Mathlib.Omega.{arith}
+use Rattle.zeros.proofs.PourLaws.{become, Poured, poured_none, poured_all, Step, poured_step, some_within, some_is, become_none}
+use Rattle.zeros.proofs.carry.Given as goal
+
+abbrev pub invariant-loop-i : goal.invariant-loop-i
+invariant-loop-i l =
+    (l.i ≤ l.end + 1) × Poured l.initial.out l.out l.at l.held l.n (become l.writing l.s l.end l.begin) (become l.writing l.s l.end l.i) l.to l.rest l.m
+
+abbrev pub decreases-loop-i : goal.decreases-loop-i
+decreases-loop-i l = l.end + 1 - l.i

@@ -1,0 +1,94 @@
+-- `zeros::plain_length` meets its contract: what is counted and what is still to be counted make the whole.
+use Prim.Native.Nat.{◌+◌, ◌-◌, ◌≤◌}
+use mathlib.Core.Path.{◌≡◌, sym, ◌∙◌}
+use native.Mathlib.Nat.{zero-add, le_refl}
+use native.Mathlib.Omega.{arith}
+use lib.ListN.{length}
+use lib.Seq.{slice}
+use Rattle.bits.specs.Bits.{bits}
+use Rattle.zeros.specs.Zeros.{unstuff}
+use Rattle.zeros.specs.Parts.{zero_behind, places}
+use Rattle.zeros.proofs.CalmLaws.{calm_length}
+use Rattle.bits.proofs.WindowLaws.{rest, length_rest, window_fits}
+use Rattle.zeros.proofs.CountLaws.{count_more, count_last}
+use Rattle.zeros.proofs.plain_length.Goals as goal
+
+-- a turn counts what begins at the first 51 places
+turn : (c : goal.After-zeros_behind-out) → let a = c.args in let l = c.loop-i in
+    l.out + c.zeros_behind-out.result + places zero_behind (rest a.s.now a.end (l.i + 51)) ≡ places zero_behind (rest a.s.now a.end a.begin)
+turn c =
+    let l = c.before in
+    let s = l.before in
+    let more =
+    count_more s.args.s.now s.args.end s.requires.1 l.loop-i.i 56 c.window.result c.zeros_behind-out.result (omega arith) c.window.ensures
+    c.zeros_behind-out.ensures in
+    omega (arith, more, l.loop-i.invariant.1)
+
+-- with what is left at the end, all is counted
+all : (c : goal.After-zeros_behind-last) → let a = c.args in
+    a.end - a.begin ≡ length (unstuff 5 (slice a.begin a.end (bits a.s.now))) + (c.loop-i.out + c.zeros_behind-last.result)
+all c =
+    let l = c.before in
+    let s = l.before in
+    let last =
+    count_last s.args.s.now s.args.end s.requires.1 l.loop-i.i (s.args.end - l.loop-i.i) c.window-2.result c.zeros_behind-last.result (omega arith)
+    c.window-2.ensures c.zeros_behind-last.ensures (omega arith) in
+    let whole : s.args.end - s.args.begin ≡ length (unstuff 5 (slice s.args.begin s.args.end (bits s.args.s.now))) + places zero_behind (rest s.args.s.now s.args.end s.args.begin) =
+      sym (length_rest s.args.s.now s.args.end s.requires.1 s.args.begin) ∙ calm_length (rest s.args.s.now s.args.end s.args.begin) s.requires.2 in
+    omega (arith, whole, last, l.loop-i.invariant.1)
+
+pub loop-i-init : goal.loop-i-init
+loop-i-init c = (c.requires.0, zero-add _)
+
+pub overflow_sub-end : goal.overflow_sub-end
+overflow_sub-end c = c.loop-i.invariant.0
+
+pub window-requires : goal.window-requires
+window-requires c = (le_refl 56, omega (arith, c.requires.1))
+
+pub zeros_behind-out-requires : goal.zeros_behind-out-requires
+zeros_behind-out-requires c =
+    let l = c.before in
+    let s = l.before in
+    (le_refl 56, window_fits s.args.s.now s.args.end 56 l.loop-i.i 56 c.window.result (omega arith) c.window.ensures)
+
+pub overflow_add-out : goal.overflow_add-out
+overflow_add-out c =
+    let whole : let a = c.args in
+    a.end - a.begin ≡ length (unstuff 5 (slice a.begin a.end (bits a.s.now))) + places zero_behind (rest a.s.now a.end a.begin) =
+      let a = c.args in
+    sym (length_rest a.s.now a.end c.requires.1 a.begin) ∙ calm_length (rest a.s.now a.end a.begin) c.requires.2 in
+    omega (arith, turn c, whole)
+
+pub overflow_add-i : goal.overflow_add-i
+overflow_add-i c = omega arith
+
+pub loop-i-smaller : goal.loop-i-smaller
+loop-i-smaller c = omega arith
+
+pub loop-i-preserved : goal.loop-i-preserved
+loop-i-preserved c = (omega arith, turn c)
+
+pub overflow_sub-n : goal.overflow_sub-n
+overflow_sub-n c = c.loop-i.invariant.0
+
+pub window-requires-2 : goal.window-requires-2
+window-requires-2 c = (omega arith, omega (arith, c.requires.1))
+
+pub zeros_behind-last-requires : goal.zeros_behind-last-requires
+zeros_behind-last-requires c =
+    let l = c.before in
+    let s = l.before in
+    (omega arith, window_fits s.args.s.now s.args.end 56 l.loop-i.i _ c.window-2.result (omega arith) c.window-2.ensures)
+
+pub overflow_sub-result : goal.overflow_sub-result
+overflow_sub-result c = c.requires.0
+
+pub overflow_add-result : goal.overflow_add-result
+overflow_add-result c = omega (arith, all c)
+
+pub overflow_sub-result-2 : goal.overflow_sub-result-2
+overflow_sub-result-2 c = omega (arith, all c)
+
+pub returns : goal.returns
+returns c = omega (arith, all c)

@@ -1,0 +1,16 @@
+-- `zeros::sent_length` meets its contract: what is counted and what the rest becomes make the whole.
+use Prim.Native.Nat.{◌+◌, ◌-◌, ◌≤◌}
+use mathlib.Core.Path.{◌≡◌, sym, ap, ◌∙◌}
+use mathlib.Core.Bool.{true}
+use native.Mathlib.Nat.{add-zero, zero-add}
+use native.Mathlib.Omega.{arith}
+use lib.ListN.{length}
+use Rattle.zeros.proofs.PourLaws.{become, some_within, some_length, become_none}
+use Rattle.zeros.proofs.sent_length.Given as goal
+
+abbrev pub invariant-loop-i : goal.invariant-loop-i
+invariant-loop-i l =
+    (l.i ≤ l.end + 1) × (l.total + length (become true l.s l.end l.i) ≡ length (become true l.s l.end l.begin))
+
+abbrev pub decreases-loop-i : goal.decreases-loop-i
+decreases-loop-i l = l.end + 1 - l.i
