@@ -1,4 +1,6 @@
 // A frame: its fields, what refuses it, and the two calls that say what it is.
+#![tactic(auto)]
+
 ghost use Rattle.std.specs.Prelude.{◌≡◌, cond, List, ℕ, ◌<◌, length};
 ghost use Rattle.octets.specs.Octets.{octet};
 ghost use Rattle.refusals.specs.Refusals.{◌or_else◌, refusal1};

@@ -7,8 +7,7 @@ use Rattle.frame.specs.Fields.{address, is_voice}
 use Rattle.frame.specs.Orders.{link_refusal}
 use Rattle.frame.specs.Calls.{link_answer}
 use borrow.Author.Rules.{rules}
-use Rattle.frame.proofs.link.Statement.{statement}
-use Rattle.frame.proofs.link.Tie as tie
+use Rattle.frame.proofs.link.Goals as goal
 
 -- the answer where a number applies, and where none does
 module _ (f : List ℕ) (n : ℕ) (order : n ≡ link_refusal f) where
@@ -20,36 +19,13 @@ module _ (f : List ℕ) (n : ℕ) (order : n ≡ link_refusal f) where
   unfolding link_answer
   whole voice addr z p q = done_is (link_refusal f) n _ _ _ order z (ap₂ (λ (v : Bool) (k : ℕ). record { refusal = 0; voice = v; address = k }) p q)
 
-link-refusal-requires : tie.Need-link-refusal-requires
-link-refusal-requires c κs = tt
+pub returns-then-refusal-ne0 : goal.returns-then-refusal-ne0
+returns-then-refusal-ne0 c =
+    let n = c.link_refusal-refusal in
+    refused c.args.frame.now n.result n.ensures c.if-refusal-ne0.true
 
-returns : tie.Need-returns
+pub returns : goal.returns
 returns c =
-    let n = c.before.link-refusal in
-    refused c.before.before.before.args.frame.now n.result n.ensures c.if1.true
-
-is-voice-requires : tie.Need-is-voice-requires
-is-voice-requires c κs = tt
-
-address-of-requires : tie.Need-address-of-requires
-address-of-requires c κs = tt
-
-cast-t5 : tie.Need-overflow-cast-t5
-cast-t5 c = search rules
-
-returns-2 : tie.Need-returns-2
-returns-2 c =
-    let voice = c.before.is-voice in
-    let n = c.before.before.before.link-refusal in
-    whole c.before.before.before.before.before.args.frame.now n.result n.ensures voice.result c.address-of.result c.before.before.if1.false voice.ensures c.address-of.ensures.0
-
-pub link_spec : {M : Type 1} → statement M
-link_spec =
-    tie.close
-    (tie.spec
-    link-refusal-requires
-    returns
-    is-voice-requires
-    address-of-requires
-    cast-t5
-    returns-2)
+    let voice = c.is_voice in
+    let n = c.link_refusal-refusal in
+    whole c.args.frame.now n.result n.ensures voice.result c.address_of.result c.if-refusal-ne0.false voice.ensures c.address_of.ensures.0

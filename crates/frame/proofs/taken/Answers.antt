@@ -8,8 +8,7 @@ use Rattle.frame.specs.Fields.{is_voice, field_c}
 use Rattle.frame.specs.Orders.{taken_refusal}
 use Rattle.frame.specs.Calls.{taken_answer}
 use borrow.Author.Rules.{rules}
-use Rattle.frame.proofs.taken.Statement.{statement}
-use Rattle.frame.proofs.taken.Tie as tie
+use Rattle.frame.proofs.taken.Goals as goal
 
 -- the answer where a number applies, and where none does
 module _ (f : List ℕ) (n : ℕ) (order : n ≡ taken_refusal f) where
@@ -21,30 +20,25 @@ module _ (f : List ℕ) (n : ℕ) (order : n ≡ taken_refusal f) where
   unfolding taken_answer
   whole voice k z p q = done_is (taken_refusal f) n _ _ _ order z (ap₂ (λ (v : Bool) (x : ℕ). record { refusal = 0; voice = v; length = length f; c = x }) p q)
 
-taken-refusal-requires : tie.Need-taken-refusal-requires
-taken-refusal-requires c κs = tt
+pub taken_refusal-refusal-requires : goal.taken_refusal-refusal-requires
+taken_refusal-refusal-requires c = tt
 
-returns : tie.Need-returns
+pub returns-then-refusal-ne0 : goal.returns-then-refusal-ne0
+returns-then-refusal-ne0 c =
+    let n = c.taken_refusal-refusal in
+    refused c.args.frame.now n.result n.ensures c.if-refusal-ne0.true
+
+pub is_voice-requires : goal.is_voice-requires
+is_voice-requires c = tt
+
+pub field_c-requires : goal.field_c-requires
+field_c-requires c = tt
+
+pub overflow_cast-result : goal.overflow_cast-result
+overflow_cast-result c = search rules
+
+pub returns : goal.returns
 returns c =
-    let n = c.before.taken-refusal in
-    refused c.before.before.before.args.frame.now n.result n.ensures c.if1.true
-
-is-voice-requires : tie.Need-is-voice-requires
-is-voice-requires c κs = tt
-
-field-c-requires : tie.Need-field-c-requires
-field-c-requires c κs = tt
-
-cast-t6 : tie.Need-overflow-cast-t6
-cast-t6 c = search rules
-
-returns-2 : tie.Need-returns-2
-returns-2 c =
-    let voice = c.before.is-voice in
-    let n = c.before.before.before.taken-refusal in
-    whole c.before.before.before.before.before.args.frame.now n.result n.ensures voice.result c.field-c.result c.before.before.if1.false voice.ensures c.field-c.ensures.0
-
-pub taken_spec : {M : Type 1} → statement M
-taken_spec =
-    tie.close
-    (tie.spec taken-refusal-requires returns is-voice-requires field-c-requires cast-t6 returns-2)
+    let voice = c.is_voice in
+    let n = c.taken_refusal-refusal in
+    whole c.args.frame.now n.result n.ensures voice.result c.field_c.result c.if-refusal-ne0.false voice.ensures c.field_c.ensures.0

@@ -7,8 +7,7 @@ use Rattle.octets.specs.Octets.{octet}
 use Rattle.coding.specs.Coding.{droppable_bits, frame_length}
 use Rattle.frame.specs.Fields.{is_voice, field_m, field_c, coding}
 use Rattle.frame.specs.Orders.{legal_length}
-use Rattle.frame.proofs.layout_by.Statement.{statement}
-use Rattle.frame.proofs.layout_by.Tie as tie
+use Rattle.frame.proofs.layout_by.Goals as goal
 
 -- the M that a frame may have, and its length, by what the branch found it to be
 module _ (f : List ℕ) (voice branch : Bool) (is : voice ≡ is_voice f) (found : voice ≡ branch) where
@@ -27,43 +26,22 @@ module _ (f : List ℕ) (t : ℕ) (is-t : t ≡ coding f) where
       → whole ≡ frame_length (coding f) (field_m f - field_c f)
   whole_of fifth lost whole e p q = q ∙ ap₂ frame_length is-t (p ∙ ap (λ (x : ℕ). x / 16 % 4 - x % 4) e)
 
-droppable-bits-requires : tie.Need-droppable-bits-requires
-droppable-bits-requires c κs = tt
-
-wide-requires : tie.Need-wide-requires
-wide-requires c κs = tt
-
-less-requires : tie.Need-less-requires
-less-requires c κs = tt
-
-frame-length-requires : tie.Need-frame-length-requires
-frame-length-requires c κs = tt
-
-laid-out-requires : tie.Need-laid-out-requires
-laid-out-requires c κs = tt
-
-returns : tie.Need-returns
-returns c = λ f ev el e5 e6 et.
-    let whole = c.before.frame-length in
-    let lost = c.before.before.less in
-    let wide = c.before.before.before.wide in
-    let d = c.before.before.before.before.droppable-bits in
-    let v = c.before.before.before.before.before.if1.true in
-    let a = c.before.before.before.before.before.before.args in
+pub returns-then-voice : goal.returns-then-voice
+returns-then-voice c = λ f ev el e5 e6 et.
+    let whole = c.frame_length-whole in
+    let lost = c.less in
+    let wide = c.wide-most in
+    let d = c.droppable_bits in
+    let v = c.if-voice.true in
+    let a = c.args in
     c.laid_out.ensures f (ap (λ (x : ℕ). x / 16 % 4) e5) (ap (λ (x : ℕ). x % 4) e5) el e6
     (most_is f a.voice true ev v wide.result (most_of f a.kind.0 et d.result wide.result d.ensures wide.ensures.0))
     (whole_is f a.voice true ev v whole.result (whole_of f a.kind.0 et a.fifth lost.result whole.result e5 lost.ensures whole.ensures))
 
-laid-out-requires-2 : tie.Need-laid-out-requires-2
-laid-out-requires-2 c κs = tt
-
-returns-2 : tie.Need-returns-2
-returns-2 c = λ f ev el e5 e6 et.
-    let v = c.before.if1.false in
-    let a = c.before.before.args in
-    c.laid-out2.ensures f (ap (λ (x : ℕ). x / 16 % 4) e5) (ap (λ (x : ℕ). x % 4) e5) el e6
+pub returns : goal.returns
+returns c = λ f ev el e5 e6 et.
+    let v = c.if-voice.false in
+    let a = c.args in
+    c.laid_out-2.ensures f (ap (λ (x : ℕ). x / 16 % 4) e5) (ap (λ (x : ℕ). x % 4) e5) el e6
     (most_is f a.voice false ev v 0 refl)
     (whole_is f a.voice false ev v 10 refl)
-
-pub layout_by_spec : {M : Type 1} → statement M
-layout_by_spec = tie.close (tie.spec droppable-bits-requires wide-requires less-requires frame-length-requires laid-out-requires returns laid-out-requires-2 returns-2)
