@@ -1,4 +1,6 @@
 // What origin and node share: the wait, the stamp, the blocks dropped, and octets 1 to 8 of the frame that is sent on.
+#![tactic(auto)]
+
 ghost use Rattle.std.specs.Prelude.{◌≡◌, ℕ, ◌+◌, ◌-◌, ◌*◌, ◌/◌, ◌%◌, ◌^◌, ◌<◌, ◌≤◌, ◌++◌, length, drop};
 ghost use Rattle.octets.specs.Octets.{octet};
 ghost use Rattle.onward.specs.Onward.{wait_of, stamp_after, dropped, onward_head, onward};
