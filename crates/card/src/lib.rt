@@ -1,4 +1,6 @@
 // What the exported forms share: numbers put at the front of a lent slice, and slices that are too short.
+#![tactic(auto)]
+
 ghost use Rattle.std.specs.Prelude.{◌≡◌, ◌≤◌, length};
 ghost use Rattle.refusals.specs.Refusals.{◌or_else◌, refusal16};
 ghost use Rattle.card.specs.Card.{put, flag};
