@@ -1,13 +1,13 @@
 use mathlib.Core.Path.{◌≡◌, sym, ap, ap₂, ◌∙◌, subst}
 use mathlib.Core.List.{List}
-use Prim.Native.Nat.{ℕ, ◌+◌, ◌*◌, ◌≤◌, ◌-◌}
+use Prim.Native.Nat.{ℕ, ◌+◌, ◌*◌}
 use native.Mathlib.Nat.{zero-add}
 use native.Mathlib.Omega.{arith}
 use borrow.Author.Rules.{rules}
-use lib.ListN.{length, get_or, set, length-set}
+use lib.ListN.{get_or, set, length-set}
 use mir.Syntax.{w8}
 use mir.Val.{Fits}
-use Rattle.blocks.proofs.ReadLaws.{row_to, row_none, row_next, row_more}
+use Rattle.blocks.proofs.ReadLaws.{row_none, row_next, row_more}
 use Rattle.blocks.proofs.add_block.Goals as goal
 
 pub loop-j-init : goal.loop-j-init

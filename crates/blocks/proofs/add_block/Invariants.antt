@@ -1,13 +1,7 @@
-use mathlib.Core.Path.{◌≡◌, sym, ap, ap₂, ◌∙◌, subst}
-use mathlib.Core.List.{List}
-use Prim.Native.Nat.{ℕ, ◌+◌, ◌*◌, ◌≤◌, ◌-◌}
-use native.Mathlib.Nat.{zero-add}
-use native.Mathlib.Omega.{arith}
-use borrow.Author.Rules.{rules}
-use lib.ListN.{length, get_or, set, length-set}
-use mir.Syntax.{w8}
-use mir.Val.{Fits}
-use Rattle.blocks.proofs.ReadLaws.{row_to, row_none, row_next, row_more}
+use mathlib.Core.Path.{◌≡◌}
+use Prim.Native.Nat.{◌*◌, ◌≤◌, ◌-◌}
+use lib.ListN.{length}
+use Rattle.blocks.proofs.ReadLaws.{row_to}
 use Rattle.blocks.proofs.add_block.Given as goal
 
 abbrev pub invariant-loop-j : goal.invariant-loop-j

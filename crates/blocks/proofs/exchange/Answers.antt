@@ -1,8 +1,7 @@
 use mathlib.Core.Path.{◌≡◌, refl, subst}
-use Prim.Native.Nat.{◌≤◌, ◌-◌}
 use native.Mathlib.Omega.{arith}
 use borrow.Author.Rules.{rules}
-use lib.ListN.{length, length-set}
+use lib.ListN.{length-set}
 use Rattle.blocks.proofs.PlaneLaws.{Done, mask_needs, cross_more, exchange_end}
 use Rattle.blocks.proofs.exchange.Goals as goal
 

@@ -1,9 +1,7 @@
-use mathlib.Core.Path.{◌≡◌, refl, subst}
+use mathlib.Core.Path.{◌≡◌}
 use Prim.Native.Nat.{◌≤◌, ◌-◌}
-use native.Mathlib.Omega.{arith}
-use borrow.Author.Rules.{rules}
-use lib.ListN.{length, length-set}
-use Rattle.blocks.proofs.PlaneLaws.{Done, mask_needs, cross_more, exchange_end}
+use lib.ListN.{length}
+use Rattle.blocks.proofs.PlaneLaws.{Done}
 use Rattle.blocks.proofs.exchange.Given as goal
 
 abbrev pub invariant-loop-i : goal.invariant-loop-i

@@ -7,7 +7,7 @@ use lib.ListN.{length, get_or, drop}
 use mir.Syntax.{w8}
 use mir.Val.{Fits}
 use borrow.Rule.Slice.PartMut.{mid_of, same_len_mid}
-use Rattle.blocks.specs.Blocks.{block, packed}
+use Rattle.blocks.specs.Blocks.{block}
 use Rattle.octets.proofs.PartLaws.{tail_of, tail_put}
 use Rattle.blocks.proofs.BlocksLaws.{packed_none, packed_more}
 use Rattle.blocks.proofs.PlaneLaws.{block_put}

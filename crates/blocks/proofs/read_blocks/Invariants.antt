@@ -1,18 +1,8 @@
-use mathlib.Core.Path.{◌≡◌, refl, sym, ap, ◌∙◌, subst}
-use mathlib.Core.List.{List}
-use Prim.Native.Nat.{ℕ, ◌+◌, ◌*◌, ◌≤◌, ◌<◌, ◌-◌}
-use native.Mathlib.Numerals.{add-one}
-use native.Mathlib.Omega.{arith}
-use borrow.Author.Rules.{rules}
-use mir.Syntax.{w8}
-use mir.Val.{Fits}
-use borrow.Rule.Slice.PartMut.{mid_of}
-use lib.Seq.{get_or-drop}
-use lib.ListN.{length, get_or, drop, length-drop, get_or-replicate}
-use Rattle.blocks.specs.Blocks.{samples, weight}
-use Rattle.octets.proofs.PartLaws.{tail_of}
+use mathlib.Core.Path.{◌≡◌}
+use Prim.Native.Nat.{ℕ, ◌*◌, ◌≤◌, ◌<◌, ◌-◌}
+use lib.ListN.{length, get_or, drop}
+use Rattle.blocks.specs.Blocks.{samples}
 use Rattle.blocks.proofs.PlaneLaws.{Turned}
-use Rattle.blocks.proofs.ReadLaws.{row_to, row_put, row_length, row_below, turned_none, turned_more, turned_back}
 use Rattle.blocks.proofs.read_blocks.Given as goal
 
 -- the planes are the samples of the first b blocks, turned over, and those of the blocks to come are zero

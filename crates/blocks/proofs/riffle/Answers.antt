@@ -1,9 +1,9 @@
 use mathlib.Core.Path.{◌≡◌, refl, ap, ◌∙◌}
 use mathlib.Core.List.{◌++◌}
-use Prim.Native.Nat.{ℕ, ◌*◌, ◌≤◌, ◌-◌}
+use Prim.Native.Nat.{ℕ, ◌*◌}
 use native.Mathlib.Omega.{arith}
 use borrow.Author.Rules.{rules}
-use lib.ListN.{length, drop, length-set, replicate}
+use lib.ListN.{drop, length-set, replicate}
 use Rattle.octets.specs.Octets.{tab}
 use Rattle.blocks.proofs.RiffleLaws.{taken, riffled, taken_all, riffle_more}
 use Rattle.blocks.proofs.riffle.Goals as goal

@@ -1,11 +1,9 @@
-use mathlib.Core.Path.{◌≡◌, refl, ap, ◌∙◌}
+use mathlib.Core.Path.{◌≡◌}
 use mathlib.Core.List.{◌++◌}
-use Prim.Native.Nat.{ℕ, ◌*◌, ◌≤◌, ◌-◌}
-use native.Mathlib.Omega.{arith}
-use borrow.Author.Rules.{rules}
-use lib.ListN.{length, drop, length-set, replicate}
+use Prim.Native.Nat.{◌*◌, ◌≤◌, ◌-◌}
+use lib.ListN.{length, drop}
 use Rattle.octets.specs.Octets.{tab}
-use Rattle.blocks.proofs.RiffleLaws.{taken, riffled, taken_all, riffle_more}
+use Rattle.blocks.proofs.RiffleLaws.{taken, riffled}
 use Rattle.blocks.proofs.riffle.Given as goal
 
 abbrev pub invariant-loop-i : goal.invariant-loop-i

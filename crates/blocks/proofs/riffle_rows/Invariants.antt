@@ -1,12 +1,9 @@
-use mathlib.Core.Path.{◌≡◌, refl, ap, ◌∙◌}
+use mathlib.Core.Path.{◌≡◌}
 use mathlib.Core.List.{◌++◌}
-use Prim.Native.Nat.{ℕ, ◌+◌, ◌*◌, ◌/◌, ◌%◌, ◌≤◌, ◌-◌}
-use native.Mathlib.Omega.{arith}
-use borrow.Author.Rules.{rules}
-use borrow.Rule.Slice.PartMut.{same_len_mid}
-use lib.ListN.{length, drop, replicate}
+use Prim.Native.Nat.{◌*◌, ◌≤◌, ◌-◌}
+use lib.ListN.{length, drop}
 use Rattle.octets.specs.Octets.{tab}
-use Rattle.blocks.proofs.RiffleLaws.{taken, rows_riffled, taken_all, sixteen, rows_more}
+use Rattle.blocks.proofs.RiffleLaws.{taken, rows_riffled}
 use Rattle.blocks.proofs.riffle_rows.Given as goal
 
 abbrev pub invariant-loop-row : goal.invariant-loop-row

@@ -1,12 +1,8 @@
-use mathlib.Core.Path.{◌≡◌, refl, sym, ap, ◌∙◌}
-use mathlib.Core.Bool.{Bool, ◌&&◌}
-use Prim.Native.Nat.{ℕ, ◌-◌, ◌^◌, ◌<◌, ◌≤◌}
-use native.Mathlib.Omega.{arith}
-use borrow.Author.Rules.{rules}
-use borrow.Author.Tests.{ne_eqb, eq-eqb}
-use lib.ListN.{length, get_or, drop}
-use Rattle.blocks.specs.Blocks.{all_below, samples_fit}
-use Rattle.blocks.proofs.BlocksLaws.{below_more, below_end}
+use mathlib.Core.Path.{◌≡◌}
+use mathlib.Core.Bool.{◌&&◌}
+use Prim.Native.Nat.{◌-◌, ◌^◌, ◌≤◌}
+use lib.ListN.{drop}
+use Rattle.blocks.specs.Blocks.{all_below}
 use Rattle.blocks.proofs.samples_fit.Given as goal
 
 abbrev pub invariant-loop-i : goal.invariant-loop-i
