@@ -1,4 +1,6 @@
 // The check sequence of G.764, section 3.2.5, worked as on paper: an array of bits, divided by x^16 + x^12 + x^5 + 1.
+#![tactic(auto)]
+
 ghost use Rattle.std.specs.Prelude.{◌≡◌, [], ◌∷◌, ◌++◌, ◌+◌, ◌-◌, ◌*◌, ◌<◌, ◌≤◌, length, take, drop, replicate};
 ghost use Rattle.plain_check.specs.Bits.{bit, number};
 ghost use Rattle.plain_check.specs.Check.{message_bits, added, complemented, reduced, remainder, check_octets};

@@ -1,0 +1,8 @@
+-- `complement` meets its contract.
+use borrow.Author.Rules.{rules}
+use Rattle.plain_check.specs.Check.{complemented}
+use Rattle.plain_check.proofs.complement.Goals as goal
+
+pub returns : goal.returns
+unfolding complemented
+returns c = c.add.ensures

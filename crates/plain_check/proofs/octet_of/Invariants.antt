@@ -1,0 +1,15 @@
+-- `octet_of` meets its contract: the number of the bits passed, from the highest.
+use Prim.Native.Nat.{suc, ◌-◌, ◌≤◌}
+use mathlib.Core.Path.{◌≡◌, sym, ap, ◌∙◌}
+use native.Mathlib.Omega.{arith}
+use borrow.Author.Rules.{rules}
+use lib.ListN.{drop, drop_of_length-le}
+use Rattle.plain_check.specs.Bits.{number}
+use Rattle.plain_check.proofs.BitLaws.{number_next, number_rest}
+use Rattle.plain_check.proofs.octet_of.Given as goal
+
+abbrev pub invariant-loop-k : goal.invariant-loop-k
+invariant-loop-k l = (l.k ≤ 8) × (l.octet ≡ number (drop l.k l.bits))
+
+abbrev pub decreases-loop-k : goal.decreases-loop-k
+decreases-loop-k l = l.k
