@@ -1,12 +1,7 @@
 use Prim.Native.Nat.{◌≤◌, ◌-◌}
-use mathlib.Core.Path.{◌≡◌, refl, ap, ◌∙◌}
+use mathlib.Core.Path.{◌≡◌}
 use mathlib.Core.List.{◌++◌}
-use native.Mathlib.Omega.{arith}
 use lib.ListN.{length, take, drop}
-use lib.Seq.{take_all}
-use borrow.Author.Rules.{rules}
-use Rattle.octets.proofs.PartLaws.{copied_length, copied_more}
-use Rattle.card.specs.Card.{put}
 use Rattle.card.proofs.put.Given as goal
 
 abbrev pub invariant-loop-i : goal.invariant-loop-i
