@@ -1,4 +1,6 @@
 // A node: takes a frame, drops blocks, stamps, addresses and seals it, and sends it on.
+#![tactic(auto)]
+
 ghost use Rattle.std.specs.Prelude.{◌≡◌, ◌++◌, ℕ, drop};
 ghost use Rattle.onward.specs.Onward.{wait_of, onward};
 ghost use Rattle.node.specs.Node.{forward_refusal, forward_answer, forward_buffer, Sendable};
