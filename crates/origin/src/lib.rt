@@ -1,4 +1,6 @@
 // The origin: makes voice frames of 128 samples, burst by burst, and signalling frames.
+#![tactic(auto)]
+
 ghost use Rattle.std.specs.Prelude.{◌≡◌, [], ◌∷◌, ◌++◌, ℕ, ◌+◌, ◌*◌, ◌/◌, ◌%◌, ◌^◌, ◌<◌, ◌≤◌, min, length, drop};
 ghost use Rattle.coding.specs.Coding.{droppable_bits};
 ghost use Rattle.onward.specs.Onward.{wait_of};
