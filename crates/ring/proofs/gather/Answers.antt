@@ -1,5 +1,4 @@
 use mathlib.Core.Path.{refl}
-use borrow.Author.Rules.{rules}
 use Rattle.ring.proofs.CopyLaws.{get_gathered}
 use Rattle.ring.proofs.gather.Goals as goal
 

@@ -1,4 +1,3 @@
-use borrow.Author.Rules.{rules}
 use Rattle.ring.proofs.CopyLaws.{put_placed}
 use Rattle.ring.proofs.lay.Goals as goal
 

@@ -1,12 +1,6 @@
-use Prim.Native.Nat.{ℕ, ◌+◌, ◌-◌, ◌*◌, ◌%◌, ◌≤◌}
-use mathlib.Core.Path.{◌≡◌, sym, ap, ap₂, ◌∙◌}
-use native.Mathlib.Omega.{arith}
-use lib.Dec.{ltb}
-use lib.ListN.{get_or}
-use borrow.Author.Rules.{rules}
-use Rattle.ring.proofs.SumLaws.{added_to, added_none, added_more, added_all, weighed}
-use Rattle.ring.proofs.sum_used.Reads as reads
-use Rattle.ring.proofs.one_if.Reads as one-if-reads
+use Prim.Native.Nat.{◌-◌, ◌*◌, ◌≤◌}
+use mathlib.Core.Path.{◌≡◌}
+use Rattle.ring.proofs.SumLaws.{added_to}
 use Rattle.ring.proofs.sum_used.Given as goal
 
 abbrev pub invariant-loop-i : goal.invariant-loop-i
