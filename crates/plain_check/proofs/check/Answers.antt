@@ -1,7 +1,6 @@
 -- `check` meets its contract: the array has room for 488 octets and sixteen bits.
 use mathlib.Core.Path.{sym}
 use native.Mathlib.Omega.{arith}
-use borrow.Author.Rules.{rules}
 use lib.Seq.{length-take-le}
 use Rattle.plain_check.proofs.check.Goals as goal
 

@@ -1,5 +1,4 @@
 -- `complement` meets its contract.
-use borrow.Author.Rules.{rules}
 use Rattle.plain_check.specs.Check.{complemented}
 use Rattle.plain_check.proofs.complement.Goals as goal
 

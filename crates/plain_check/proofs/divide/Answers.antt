@@ -1,8 +1,7 @@
 -- `divide` meets its contract: the lines still to come, from the leading bit on, give what all of them give.
-use Prim.Native.Nat.{ℕ, ◌+◌, ◌-◌, ◌≤◌}
+use Prim.Native.Nat.{ℕ, ◌+◌, ◌-◌}
 use mathlib.Core.Path.{◌≡◌, refl, sym, ap, ◌∙◌}
 use native.Mathlib.Omega.{arith}
-use borrow.Author.Rules.{rules}
 use borrow.Rule.Slice.PartMut.{same_len_mid}
 use lib.ListN.{length, drop}
 use Rattle.octets.proofs.PartLaws.{tail_of, tail_put}

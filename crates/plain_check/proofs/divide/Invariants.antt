@@ -1,13 +1,8 @@
 -- `divide` meets its contract: the lines still to come, from the leading bit on, give what all of them give.
-use Prim.Native.Nat.{ℕ, ◌+◌, ◌-◌, ◌≤◌}
-use mathlib.Core.Path.{◌≡◌, refl, sym, ap, ◌∙◌}
-use native.Mathlib.Omega.{arith}
-use borrow.Author.Rules.{rules}
-use borrow.Rule.Slice.PartMut.{same_len_mid}
+use Prim.Native.Nat.{◌-◌, ◌≤◌}
+use mathlib.Core.Path.{◌≡◌}
 use lib.ListN.{length, drop}
-use Rattle.octets.proofs.PartLaws.{tail_of, tail_put}
-use Rattle.plain_check.specs.Check.{reduced, lines, remainder}
-use Rattle.plain_check.proofs.WalkLaws.{line_next, lines_none}
+use Rattle.plain_check.specs.Check.{lines}
 use Rattle.plain_check.proofs.divide.Given as goal
 
 abbrev pub invariant-loop-leading : goal.invariant-loop-leading

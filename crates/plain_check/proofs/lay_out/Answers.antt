@@ -1,12 +1,11 @@
 -- `lay_out` meets its contract: the places filled so far, and the rest as it came.
-use Prim.Native.Nat.{◌+◌, ◌-◌, ◌*◌, ◌≤◌, ◌%◌}
-use mathlib.Core.Path.{◌≡◌, refl, ap, ◌∙◌}
+use Prim.Native.Nat.{◌+◌, ◌*◌, ◌%◌}
+use mathlib.Core.Path.{refl, ap, ◌∙◌}
 use native.Mathlib.Omega.{arith}
-use borrow.Author.Rules.{rules}
 use lib.ListN.{length}
 use Rattle.plain_check.specs.Bits.{bit}
 use Rattle.plain_check.proofs.WalkLaws.{message_bit, laid}
-use Rattle.plain_check.proofs.FillLaws.{Filled, begun, one_more, all_filled}
+use Rattle.plain_check.proofs.FillLaws.{begun, one_more, all_filled}
 use Rattle.plain_check.proofs.lay_out.Goals as goal
 
 pub loop-i-init : goal.loop-i-init

@@ -1,12 +1,9 @@
 -- `lay_out` meets its contract: the places filled so far, and the rest as it came.
-use Prim.Native.Nat.{◌+◌, ◌-◌, ◌*◌, ◌≤◌, ◌%◌}
-use mathlib.Core.Path.{◌≡◌, refl, ap, ◌∙◌}
-use native.Mathlib.Omega.{arith}
-use borrow.Author.Rules.{rules}
+use Prim.Native.Nat.{◌-◌, ◌≤◌}
+use mathlib.Core.Path.{◌≡◌}
 use lib.ListN.{length}
-use Rattle.plain_check.specs.Bits.{bit}
-use Rattle.plain_check.proofs.WalkLaws.{message_bit, laid}
-use Rattle.plain_check.proofs.FillLaws.{Filled, begun, one_more, all_filled}
+use Rattle.plain_check.proofs.WalkLaws.{message_bit}
+use Rattle.plain_check.proofs.FillLaws.{Filled}
 use Rattle.plain_check.proofs.lay_out.Given as goal
 
 abbrev pub invariant-loop-i : goal.invariant-loop-i

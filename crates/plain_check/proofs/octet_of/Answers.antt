@@ -1,8 +1,7 @@
 -- `octet_of` meets its contract: the number of the bits passed, from the highest.
-use Prim.Native.Nat.{suc, ◌-◌, ◌≤◌}
+use Prim.Native.Nat.{suc, ◌-◌}
 use mathlib.Core.Path.{◌≡◌, sym, ap, ◌∙◌}
 use native.Mathlib.Omega.{arith}
-use borrow.Author.Rules.{rules}
 use lib.ListN.{drop, drop_of_length-le}
 use Rattle.plain_check.specs.Bits.{number}
 use Rattle.plain_check.proofs.BitLaws.{number_next, number_rest}

@@ -1,11 +1,8 @@
 -- `octet_of` meets its contract: the number of the bits passed, from the highest.
-use Prim.Native.Nat.{suc, ◌-◌, ◌≤◌}
-use mathlib.Core.Path.{◌≡◌, sym, ap, ◌∙◌}
-use native.Mathlib.Omega.{arith}
-use borrow.Author.Rules.{rules}
-use lib.ListN.{drop, drop_of_length-le}
+use Prim.Native.Nat.{◌≤◌}
+use mathlib.Core.Path.{◌≡◌}
+use lib.ListN.{drop}
 use Rattle.plain_check.specs.Bits.{number}
-use Rattle.plain_check.proofs.BitLaws.{number_next, number_rest}
 use Rattle.plain_check.proofs.octet_of.Given as goal
 
 abbrev pub invariant-loop-k : goal.invariant-loop-k

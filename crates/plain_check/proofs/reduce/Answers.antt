@@ -1,5 +1,4 @@
 -- `reduce` meets its contract, by the two ways of a line.
-use borrow.Author.Rules.{rules}
 use mathlib.Core.Path.{◌≡◌}
 use Rattle.plain_check.specs.Check.{added, generator_polynomial}
 use Rattle.plain_check.proofs.WalkLaws.{reduced_one, reduced_else}

@@ -2,7 +2,6 @@
 use Prim.Native.Nat.{◌-◌, ◌<◌, ℕ}
 use mathlib.Core.Path.{◌≡◌, refl, sym, ap, subst, ◌∙◌}
 use native.Mathlib.Omega.{arith}
-use borrow.Author.Rules.{rules}
 use lib.ListN.{length, take, drop, replicate}
 use Rattle.octets.proofs.PartLaws.{tail_length}
 use Rattle.plain_check.specs.Bits.{number}
