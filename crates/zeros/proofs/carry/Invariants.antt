@@ -1,9 +1,6 @@
 -- `zeros::carry` meets its contract: each turn pours a piece, and what is put and what is left are all.
-use Prim.Native.Nat.{ℕ, ◌+◌, ◌-◌, ◌≤◌}
-use mathlib.Core.Bool.{Bool}
-use mathlib.Core.List.{List}
-use native.Mathlib.Omega.{arith}
-use Rattle.zeros.proofs.PourLaws.{become, Poured, poured_none, poured_all, Step, poured_step, some_within, some_is, become_none}
+use Prim.Native.Nat.{◌+◌, ◌-◌, ◌≤◌}
+use Rattle.zeros.proofs.PourLaws.{become, Poured}
 use Rattle.zeros.proofs.carry.Given as goal
 
 abbrev pub invariant-loop-i : goal.invariant-loop-i

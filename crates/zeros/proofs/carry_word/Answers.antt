@@ -1,16 +1,13 @@
 -- `zeros::carry_word` meets its contract: each turn of the loop is `turn-five`, and what is left `turn_last`.
 use Prim.Native.Nat.{◌+◌, ◌-◌, ◌≤◌}
 use mathlib.Core.Path.{◌≡◌, sym, ap, ◌∙◌}
-use mathlib.Core.Bool.{Bool, cond}
-use mathlib.Core.List.{List}
+use mathlib.Core.Bool.{cond}
 use native.Mathlib.Nat.{le_of_eq}
 use native.Mathlib.Omega.{arith}
 use lib.ListN.{length, take}
 use lib.Seq.{take_all}
 use Rattle.bits.specs.Bits.{lowest, value}
-use Rattle.bits.specs.Places.{until}
 use Rattle.bits.proofs.BitLaws.{length_lowest, value_lowest}
-use Rattle.zeros.specs.Parts.{five_ones}
 use Rattle.zeros.proofs.CarryLaws.{put_le}
 use Rattle.zeros.proofs.WordLaws.{Turn, turn_none, turn_five, turn_last, turn_fits, turn_room}
 use Rattle.zeros.proofs.carry_word.Goals as goal
@@ -27,14 +24,14 @@ pub overflow_add-taken : goal.overflow_add-taken
 overflow_add-taken c =
     let own : let a = c.args in let l = c.loop-taken in
     (a.sure ≤ length (lowest 48 a.bits)) × Turn a.writing (lowest 48 a.bits) l.w l.made l.n l.taken =
-      let s = c.before in
+    let s = c.before in
     let w = s.args.bits in
     let n : length (lowest 48 w) ≡ 48 = length_lowest 48 w in
     let e : w ≡ value (take 48 (lowest 48 w)) = sym (ap value (take_all 48 (lowest 48 w) (le_of_eq n)) ∙ value_lowest 48 w s.requires.2) in
     let h : s.args.sure ≤ length (lowest 48 w) = omega arith in
     (h, c.loop-taken.invariant.1 (lowest 48 w) e h) in
     let fits : let l = c.loop-taken in (l.n + (c.args.sure - l.taken) ≤ 57) × (l.taken ≤ 49) × (l.j ≤ 64) =
-      let s = c.before in
+    let s = c.before in
     let a = s.args in
     let l = c.loop-taken in
     turn_fits a.writing (lowest 48 a.bits) a.sure l.w l.made l.n l.taken l.j s.requires.1 (own).0 (own).1 l.invariant.0 in
@@ -44,14 +41,14 @@ pub overflow_add-k : goal.overflow_add-k
 overflow_add-k c =
     let own : let a = c.args in let l = c.loop-taken in
     (a.sure ≤ length (lowest 48 a.bits)) × Turn a.writing (lowest 48 a.bits) l.w l.made l.n l.taken =
-      let s = c.before in
+    let s = c.before in
     let w = s.args.bits in
     let n : length (lowest 48 w) ≡ 48 = length_lowest 48 w in
     let e : w ≡ value (take 48 (lowest 48 w)) = sym (ap value (take_all 48 (lowest 48 w) (le_of_eq n)) ∙ value_lowest 48 w s.requires.2) in
     let h : s.args.sure ≤ length (lowest 48 w) = omega arith in
     (h, c.loop-taken.invariant.1 (lowest 48 w) e h) in
     let room : let l = c.loop-taken in l.n + (l.j + 5 + cond c.args.writing 1 0) ≤ 57 =
-      let s = c.before in
+    let s = c.before in
     let a = s.args in
     let l = c.loop-taken in
     let o = own in
@@ -62,14 +59,14 @@ pub behind-made-requires : goal.behind-made-requires
 behind-made-requires c =
     let own : let a = c.args in let l = c.loop-taken in
     (a.sure ≤ length (lowest 48 a.bits)) × Turn a.writing (lowest 48 a.bits) l.w l.made l.n l.taken =
-      let s = c.before in
+    let s = c.before in
     let w = s.args.bits in
     let n : length (lowest 48 w) ≡ 48 = length_lowest 48 w in
     let e : w ≡ value (take 48 (lowest 48 w)) = sym (ap value (take_all 48 (lowest 48 w) (le_of_eq n)) ∙ value_lowest 48 w s.requires.2) in
     let h : s.args.sure ≤ length (lowest 48 w) = omega arith in
     (h, c.loop-taken.invariant.1 (lowest 48 w) e h) in
     let room : let l = c.loop-taken in l.n + (l.j + 5 + cond c.args.writing 1 0) ≤ 57 =
-      let s = c.before in
+    let s = c.before in
     let a = s.args in
     let l = c.loop-taken in
     let o = own in
@@ -80,14 +77,14 @@ pub overflow_add-n : goal.overflow_add-n
 overflow_add-n c =
     let own : let a = c.args in let l = c.loop-taken in
     (a.sure ≤ length (lowest 48 a.bits)) × Turn a.writing (lowest 48 a.bits) l.w l.made l.n l.taken =
-      let s = c.before in
+    let s = c.before in
     let w = s.args.bits in
     let n : length (lowest 48 w) ≡ 48 = length_lowest 48 w in
     let e : w ≡ value (take 48 (lowest 48 w)) = sym (ap value (take_all 48 (lowest 48 w) (le_of_eq n)) ∙ value_lowest 48 w s.requires.2) in
     let h : s.args.sure ≤ length (lowest 48 w) = omega arith in
     (h, c.loop-taken.invariant.1 (lowest 48 w) e h) in
     let room : let l = c.loop-taken in l.n + (l.j + 5 + cond c.args.writing 1 0) ≤ 57 =
-      let s = c.before in
+    let s = c.before in
     let a = s.args in
     let l = c.loop-taken in
     let o = own in
@@ -98,14 +95,14 @@ pub overflow_add-n-in-loop-taken : goal.overflow_add-n-in-loop-taken
 overflow_add-n-in-loop-taken c =
     let own : let a = c.args in let l = c.loop-taken in
     (a.sure ≤ length (lowest 48 a.bits)) × Turn a.writing (lowest 48 a.bits) l.w l.made l.n l.taken =
-      let s = c.before in
+    let s = c.before in
     let w = s.args.bits in
     let n : length (lowest 48 w) ≡ 48 = length_lowest 48 w in
     let e : w ≡ value (take 48 (lowest 48 w)) = sym (ap value (take_all 48 (lowest 48 w) (le_of_eq n)) ∙ value_lowest 48 w s.requires.2) in
     let h : s.args.sure ≤ length (lowest 48 w) = omega arith in
     (h, c.loop-taken.invariant.1 (lowest 48 w) e h) in
     let room : let l = c.loop-taken in l.n + (l.j + 5 + cond c.args.writing 1 0) ≤ 57 =
-      let s = c.before in
+    let s = c.before in
     let a = s.args in
     let l = c.loop-taken in
     let o = own in
@@ -116,14 +113,14 @@ pub overflow_add-gone : goal.overflow_add-gone
 overflow_add-gone c =
     let own : let a = c.args in let l = c.loop-taken in
     (a.sure ≤ length (lowest 48 a.bits)) × Turn a.writing (lowest 48 a.bits) l.w l.made l.n l.taken =
-      let s = c.before in
+    let s = c.before in
     let w = s.args.bits in
     let n : length (lowest 48 w) ≡ 48 = length_lowest 48 w in
     let e : w ≡ value (take 48 (lowest 48 w)) = sym (ap value (take_all 48 (lowest 48 w) (le_of_eq n)) ∙ value_lowest 48 w s.requires.2) in
     let h : s.args.sure ≤ length (lowest 48 w) = omega arith in
     (h, c.loop-taken.invariant.1 (lowest 48 w) e h) in
     let room : let l = c.loop-taken in l.n + (l.j + 5 + cond c.args.writing 1 0) ≤ 57 =
-      let s = c.before in
+    let s = c.before in
     let a = s.args in
     let l = c.loop-taken in
     let o = own in
@@ -134,14 +131,14 @@ pub overflow_shr-w : goal.overflow_shr-w
 overflow_shr-w c =
     let own : let a = c.args in let l = c.loop-taken in
     (a.sure ≤ length (lowest 48 a.bits)) × Turn a.writing (lowest 48 a.bits) l.w l.made l.n l.taken =
-      let s = c.before in
+    let s = c.before in
     let w = s.args.bits in
     let n : length (lowest 48 w) ≡ 48 = length_lowest 48 w in
     let e : w ≡ value (take 48 (lowest 48 w)) = sym (ap value (take_all 48 (lowest 48 w) (le_of_eq n)) ∙ value_lowest 48 w s.requires.2) in
     let h : s.args.sure ≤ length (lowest 48 w) = omega arith in
     (h, c.loop-taken.invariant.1 (lowest 48 w) e h) in
     let room : let l = c.loop-taken in l.n + (l.j + 5 + cond c.args.writing 1 0) ≤ 57 =
-      let s = c.before in
+    let s = c.before in
     let a = s.args in
     let l = c.loop-taken in
     let o = own in
@@ -152,14 +149,14 @@ pub overflow_add-taken-in-loop-taken : goal.overflow_add-taken-in-loop-taken
 overflow_add-taken-in-loop-taken c =
     let own : let a = c.args in let l = c.loop-taken in
     (a.sure ≤ length (lowest 48 a.bits)) × Turn a.writing (lowest 48 a.bits) l.w l.made l.n l.taken =
-      let s = c.before in
+    let s = c.before in
     let w = s.args.bits in
     let n : length (lowest 48 w) ≡ 48 = length_lowest 48 w in
     let e : w ≡ value (take 48 (lowest 48 w)) = sym (ap value (take_all 48 (lowest 48 w) (le_of_eq n)) ∙ value_lowest 48 w s.requires.2) in
     let h : s.args.sure ≤ length (lowest 48 w) = omega arith in
     (h, c.loop-taken.invariant.1 (lowest 48 w) e h) in
     let room : let l = c.loop-taken in l.n + (l.j + 5 + cond c.args.writing 1 0) ≤ 57 =
-      let s = c.before in
+    let s = c.before in
     let a = s.args in
     let l = c.loop-taken in
     let o = own in
@@ -170,14 +167,14 @@ pub loop-taken-smaller : goal.loop-taken-smaller
 loop-taken-smaller c =
     let own : let a = c.args in let l = c.loop-taken in
     (a.sure ≤ length (lowest 48 a.bits)) × Turn a.writing (lowest 48 a.bits) l.w l.made l.n l.taken =
-      let s = c.before in
+    let s = c.before in
     let w = s.args.bits in
     let n : length (lowest 48 w) ≡ 48 = length_lowest 48 w in
     let e : w ≡ value (take 48 (lowest 48 w)) = sym (ap value (take_all 48 (lowest 48 w) (le_of_eq n)) ∙ value_lowest 48 w s.requires.2) in
     let h : s.args.sure ≤ length (lowest 48 w) = omega arith in
     (h, c.loop-taken.invariant.1 (lowest 48 w) e h) in
     let room : let l = c.loop-taken in l.n + (l.j + 5 + cond c.args.writing 1 0) ≤ 57 =
-      let s = c.before in
+    let s = c.before in
     let a = s.args in
     let l = c.loop-taken in
     let o = own in
@@ -198,14 +195,14 @@ pub overflow_add-all : goal.overflow_add-all
 overflow_add-all c =
     let own : let a = c.args in let l = c.loop-taken in
     (a.sure ≤ length (lowest 48 a.bits)) × Turn a.writing (lowest 48 a.bits) l.w l.made l.n l.taken =
-      let s = c.before in
+    let s = c.before in
     let w = s.args.bits in
     let n : length (lowest 48 w) ≡ 48 = length_lowest 48 w in
     let e : w ≡ value (take 48 (lowest 48 w)) = sym (ap value (take_all 48 (lowest 48 w) (le_of_eq n)) ∙ value_lowest 48 w s.requires.2) in
     let h : s.args.sure ≤ length (lowest 48 w) = omega arith in
     (h, c.loop-taken.invariant.1 (lowest 48 w) e h) in
     let fits : let l = c.loop-taken in (l.n + (c.args.sure - l.taken) ≤ 57) × (l.taken ≤ 49) × (l.j ≤ 64) =
-      let s = c.before in
+    let s = c.before in
     let a = s.args in
     let l = c.loop-taken in
     turn_fits a.writing (lowest 48 a.bits) a.sure l.w l.made l.n l.taken l.j s.requires.1 (own).0 (own).1 l.invariant.0 in
@@ -215,14 +212,14 @@ pub overflow_add-passed : goal.overflow_add-passed
 overflow_add-passed c =
     let own : let a = c.args in let l = c.loop-taken in
     (a.sure ≤ length (lowest 48 a.bits)) × Turn a.writing (lowest 48 a.bits) l.w l.made l.n l.taken =
-      let s = c.before in
+    let s = c.before in
     let w = s.args.bits in
     let n : length (lowest 48 w) ≡ 48 = length_lowest 48 w in
     let e : w ≡ value (take 48 (lowest 48 w)) = sym (ap value (take_all 48 (lowest 48 w) (le_of_eq n)) ∙ value_lowest 48 w s.requires.2) in
     let h : s.args.sure ≤ length (lowest 48 w) = omega arith in
     (h, c.loop-taken.invariant.1 (lowest 48 w) e h) in
     let fits : let l = c.loop-taken in (l.n + (c.args.sure - l.taken) ≤ 57) × (l.taken ≤ 49) × (l.j ≤ 64) =
-      let s = c.before in
+    let s = c.before in
     let a = s.args in
     let l = c.loop-taken in
     turn_fits a.writing (lowest 48 a.bits) a.sure l.w l.made l.n l.taken l.j s.requires.1 (own).0 (own).1 l.invariant.0 in
@@ -232,14 +229,14 @@ pub behind-requires : goal.behind-requires
 behind-requires c =
     let own : let a = c.args in let l = c.loop-taken in
     (a.sure ≤ length (lowest 48 a.bits)) × Turn a.writing (lowest 48 a.bits) l.w l.made l.n l.taken =
-      let s = c.before in
+    let s = c.before in
     let w = s.args.bits in
     let n : length (lowest 48 w) ≡ 48 = length_lowest 48 w in
     let e : w ≡ value (take 48 (lowest 48 w)) = sym (ap value (take_all 48 (lowest 48 w) (le_of_eq n)) ∙ value_lowest 48 w s.requires.2) in
     let h : s.args.sure ≤ length (lowest 48 w) = omega arith in
     (h, c.loop-taken.invariant.1 (lowest 48 w) e h) in
     let fits : let l = c.loop-taken in (l.n + (c.args.sure - l.taken) ≤ 57) × (l.taken ≤ 49) × (l.j ≤ 64) =
-      let s = c.before in
+    let s = c.before in
     let a = s.args in
     let l = c.loop-taken in
     turn_fits a.writing (lowest 48 a.bits) a.sure l.w l.made l.n l.taken l.j s.requires.1 (own).0 (own).1 l.invariant.0 in

@@ -1,18 +1,13 @@
 -- `zeros::carry_word` meets its contract: each turn of the loop is `turn-five`, and what is left `turn_last`.
-use Prim.Native.Nat.{◌+◌, ◌-◌, ◌≤◌}
-use mathlib.Core.Path.{◌≡◌, sym, ap, ◌∙◌}
-use mathlib.Core.Bool.{Bool, cond}
+use Prim.Native.Nat.{◌-◌, ◌≤◌}
+use mathlib.Core.Path.{◌≡◌}
+use mathlib.Core.Bool.{Bool}
 use mathlib.Core.List.{List}
-use native.Mathlib.Nat.{le_of_eq}
-use native.Mathlib.Omega.{arith}
 use lib.ListN.{length, take}
-use lib.Seq.{take_all}
 use Rattle.bits.specs.Bits.{lowest, value}
 use Rattle.bits.specs.Places.{until}
-use Rattle.bits.proofs.BitLaws.{length_lowest, value_lowest}
 use Rattle.zeros.specs.Parts.{five_ones}
-use Rattle.zeros.proofs.CarryLaws.{put_le}
-use Rattle.zeros.proofs.WordLaws.{Turn, turn_none, turn_five, turn_last, turn_fits, turn_room}
+use Rattle.zeros.proofs.WordLaws.{Turn}
 use Rattle.zeros.proofs.carry_word.Given as goal
 
 abbrev pub invariant-loop-taken : goal.invariant-loop-taken

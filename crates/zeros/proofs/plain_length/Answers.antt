@@ -1,5 +1,5 @@
 -- `zeros::plain_length` meets its contract: what is counted and what is still to be counted make the whole.
-use Prim.Native.Nat.{◌+◌, ◌-◌, ◌≤◌}
+use Prim.Native.Nat.{◌+◌, ◌-◌}
 use mathlib.Core.Path.{◌≡◌, sym, ◌∙◌}
 use native.Mathlib.Nat.{zero-add, le_refl}
 use native.Mathlib.Omega.{arith}
@@ -34,7 +34,7 @@ all c =
     count_last s.args.s.now s.args.end s.requires.1 l.loop-i.i (s.args.end - l.loop-i.i) c.window-2.result c.zeros_behind-last.result (omega arith)
     c.window-2.ensures c.zeros_behind-last.ensures (omega arith) in
     let whole : s.args.end - s.args.begin ≡ length (unstuff 5 (slice s.args.begin s.args.end (bits s.args.s.now))) + places zero_behind (rest s.args.s.now s.args.end s.args.begin) =
-      sym (length_rest s.args.s.now s.args.end s.requires.1 s.args.begin) ∙ calm_length (rest s.args.s.now s.args.end s.args.begin) s.requires.2 in
+    sym (length_rest s.args.s.now s.args.end s.requires.1 s.args.begin) ∙ calm_length (rest s.args.s.now s.args.end s.args.begin) s.requires.2 in
     omega (arith, whole, last, l.loop-i.invariant.1)
 
 pub loop-i-init : goal.loop-i-init
@@ -56,7 +56,7 @@ pub overflow_add-out : goal.overflow_add-out
 overflow_add-out c =
     let whole : let a = c.args in
     a.end - a.begin ≡ length (unstuff 5 (slice a.begin a.end (bits a.s.now))) + places zero_behind (rest a.s.now a.end a.begin) =
-      let a = c.args in
+    let a = c.args in
     sym (length_rest a.s.now a.end c.requires.1 a.begin) ∙ calm_length (rest a.s.now a.end a.begin) c.requires.2 in
     omega (arith, turn c, whole)
 

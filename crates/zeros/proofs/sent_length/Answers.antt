@@ -1,5 +1,5 @@
 -- `zeros::sent_length` meets its contract: what is counted and what the rest becomes make the whole.
-use Prim.Native.Nat.{◌+◌, ◌-◌, ◌≤◌}
+use Prim.Native.Nat.{◌+◌, ◌≤◌}
 use mathlib.Core.Path.{◌≡◌, sym, ap, ◌∙◌}
 use mathlib.Core.Bool.{true}
 use native.Mathlib.Nat.{add-zero, zero-add}
@@ -19,7 +19,7 @@ overflow_add-total c =
     let turn : let a = c.args in let l = c.loop-i in let p = c.carry_some-piece.result in
     (l.i + p.taken ≤ a.end + 1)
     × (length (become true a.s.now a.end l.i) ≡ p.n + length (become true a.s.now a.end (l.i + p.taken))) =
-      let s = c.before in
+    let s = c.before in
     let a = s.args in
     let i = c.loop-i.i in
     let p = c.carry_some-piece.result in
@@ -34,7 +34,7 @@ overflow_add-i c =
     let turn : let a = c.args in let l = c.loop-i in let p = c.carry_some-piece.result in
     (l.i + p.taken ≤ a.end + 1)
     × (length (become true a.s.now a.end l.i) ≡ p.n + length (become true a.s.now a.end (l.i + p.taken))) =
-      let s = c.before in
+    let s = c.before in
     let a = s.args in
     let i = c.loop-i.i in
     let p = c.carry_some-piece.result in
@@ -52,7 +52,7 @@ loop-i-preserved c =
     let turn : let a = c.args in let l = c.loop-i in let p = c.carry_some-piece.result in
     (l.i + p.taken ≤ a.end + 1)
     × (length (become true a.s.now a.end l.i) ≡ p.n + length (become true a.s.now a.end (l.i + p.taken))) =
-      let s = c.before in
+    let s = c.before in
     let a = s.args in
     let i = c.loop-i.i in
     let p = c.carry_some-piece.result in

@@ -1,11 +1,9 @@
 -- `zeros::sent_length` meets its contract: what is counted and what the rest becomes make the whole.
 use Prim.Native.Nat.{◌+◌, ◌-◌, ◌≤◌}
-use mathlib.Core.Path.{◌≡◌, sym, ap, ◌∙◌}
+use mathlib.Core.Path.{◌≡◌}
 use mathlib.Core.Bool.{true}
-use native.Mathlib.Nat.{add-zero, zero-add}
-use native.Mathlib.Omega.{arith}
 use lib.ListN.{length}
-use Rattle.zeros.proofs.PourLaws.{become, some_within, some_length, become_none}
+use Rattle.zeros.proofs.PourLaws.{become}
 use Rattle.zeros.proofs.sent_length.Given as goal
 
 abbrev pub invariant-loop-i : goal.invariant-loop-i
