@@ -1,4 +1,6 @@
 // Flags and zero bits: frames on a lent line of bits, the lowest bit of each octet first.
+#![tactic(auto)]
+
 ghost use Rattle.std.specs.Prelude.{◌≡◌, ◌++◌, ◌+◌, ◌*◌, ◌^◌, ◌<◌, ◌≤◌, eqb, length, take, drop};
 ghost use Rattle.bits.specs.Bits.{bits, lowest, value};
 ghost use Rattle.bits.specs.Marks.{marks};

@@ -1,0 +1,27 @@
+-- `line::mark` meets its contract: each mask is the marks of a test.
+use Prim.Native.Nat.{ℕ, ◌-◌}
+use mathlib.Core.Path.{ap}
+use native.Mathlib.Omega.{arith}
+use lib.Pow.{pow_pos}
+use Rattle.bits.specs.Bits.{lowest}
+use Rattle.bits.proofs.BitLaws.{shifted}
+use Rattle.line.proofs.FlagLaws.{flags_marked, opens_marked, ends_marked}
+use Rattle.line.proofs.mark.Goals as goal
+
+pub overflow_sub-zeros : goal.overflow_sub-zeros
+overflow_sub-zeros c = let n : ℕ = c.args.n in omega (arith, shifted n (omega arith), pow_pos n)
+
+pub overflow_sub-zeros-2 : goal.overflow_sub-zeros-2
+overflow_sub-zeros-2 c = let n : ℕ = c.args.n in omega (arith, shifted n (omega arith))
+
+pub returns-then-opening : goal.returns-then-opening
+returns-then-opening c =
+    let a = c.args in
+    let p = c.requires in
+    rw (c.if-opening.true, (flags_marked a.n a.w p.1 _ (ap (λ (x : ℕ). x - 1 - a.w) (shifted a.n (omega arith)))).is) (opens_marked (lowest a.n a.w)).is
+
+pub returns : goal.returns
+returns c =
+    let a = c.args in
+    let p = c.requires in
+    rw c.if-opening.false (ends_marked a.n a.w p.1 _ (ap (λ (x : ℕ). x - 1 - a.w) (shifted a.n (omega arith)))).is
