@@ -1,4 +1,4 @@
-use Rattle.std.proofs.Common.{ℕ, ◌+◌, ◌-◌, ◌%◌, sym, ap, ◌∙◌, le_of_lt, arith}
+use Rattle.std.proofs.Common.{ℕ, ◌+◌, ◌-◌, ◌%◌, sym, ap, ◌∙◌, le_of_lt}
 use native.Mathlib.Nat.{min-eq_left, min-eq_right}
 use Rattle.playout.specs.Counts.{missing_between}
 use Rattle.playout.proofs.CountLaws.{missing_first, missing_stop, missing_on}
