@@ -1,4 +1,6 @@
 // All that hears a frame: the reader, the arrival, signalling, and fill.
+#![tactic(auto)]
+
 ghost use Rattle.std.specs.Prelude.{◌≡◌, ◌++◌, ◌≤◌, length, drop, replicate};
 ghost use Rattle.frame.specs.Orders.{voice_refusal};
 ghost use Rattle.playout.specs.Play.{fresh_record};

@@ -6,8 +6,7 @@ use Rattle.frame.specs.Fields.{stamp, na, signal_bits}
 use Rattle.endpoint.specs.declared.SignalHeard.{SignalHeard}
 use Rattle.playout.specs.Play.{hold}
 use Rattle.endpoint.specs.Signal.{signal_answer, signal_order}
-use Rattle.endpoint.proofs.signal.Statement.{statement}
-use Rattle.endpoint.proofs.signal.Tie as tie
+use Rattle.endpoint.proofs.signal.Goals as goal
 
 -- the answer where a number applies, and where none does
 module _ (b : ℕ) (f : List ℕ) (n : ℕ) (order : n ≡ signal_order b f) where
@@ -23,45 +22,18 @@ module _ (b : ℕ) (f : List ℕ) (n : ℕ) (order : n ≡ signal_order b f) whe
       (ap₂ (λ (x y : ℕ). record { refusal = 0; bits = x; na = y; hold = held }) p q
       ∙ ap (λ (x : ℕ). record { refusal = 0; bits = signal_bits f; na = na f; hold = x }) (s ∙ ap (hold b) r))
 
-signal-order-requires : tie.Need-signal-order-requires
-signal-order-requires c κs = tt
+pub returns-then-n-ne0 : goal.returns-then-n-ne0
+returns-then-n-ne0 c =
+    let a = c.args in
+    let o = c.signal_order-n in
+    refused a.buildout a.frame.now o.result o.ensures c.if-n-ne0.true
 
-returns : tie.Need-returns
+pub returns : goal.returns
 returns c =
-    let a = c.before.before.before.args in
-    let o = c.before.signal-order in
-    refused a.buildout a.frame.now o.result o.ensures c.if1.true
-
-signal-bits-requires : tie.Need-signal-bits-requires
-signal-bits-requires c κs = tt
-
-na-of-requires : tie.Need-na-of-requires
-na-of-requires c κs = tt
-
-stamp-of-requires : tie.Need-stamp-of-requires
-stamp-of-requires c κs = tt
-
-hold-requires : tie.Need-hold-requires
-hold-requires c κs = tt
-
-returns-2 : tie.Need-returns-2
-returns-2 c =
-    let e = c.before.before.before.before in
-    let o = e.before.signal-order in
-    let a = e.before.before.before.args in
-    let b = c.before.before.before.signal_bits_lem in
-    let n = c.before.before.na-of in
-    let t = c.before.stamp-of in
-    heard a.buildout a.frame.now o.result o.ensures b.result n.result t.result c.hold.result e.if1.false b.ensures.0 n.ensures.0 t.ensures c.hold.ensures
-
-pub signal_spec : {M : Type 1} → statement M
-signal_spec =
-    tie.close
-    (tie.spec
-    signal-order-requires
-    returns
-    signal-bits-requires
-    na-of-requires
-    stamp-of-requires
-    hold-requires
-    returns-2)
+    let e = c.before in
+    let o = e.signal_order-n in
+    let a = e.args in
+    let b = c.signal_bits in
+    let n = c.na_of in
+    let t = c.stamp_of in
+    heard a.buildout a.frame.now o.result o.ensures b.result n.result t.result c.hold.result e.if-n-ne0.false b.ensures.0 n.ensures.0 t.ensures c.hold.ensures
