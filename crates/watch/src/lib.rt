@@ -1,4 +1,6 @@
 // The signalling watch of a circuit: when a signalling frame is to be sent, and when the trunk is to be conditioned.
+#![tactic(auto)]
+
 ghost use Rattle.std.specs.Prelude.{◌≡◌, cond, ◌+◌, leb};
 ghost use Rattle.watch.specs.Table.{table, conditioned, change, sends_both};
 ghost use Rattle.watch.specs.Watch.{states_offered, refresh_offered, keep_alive_offered, refusal21, refusal18, brought12, event_refusal, start_refusal, when_past, in_use, reading, brought, sent_after, standing, event_row, bits_after, taken_after, na_of, if_sent, fresh_watch, only, answered, start_answer, event_answer};
