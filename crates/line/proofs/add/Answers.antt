@@ -1,5 +1,5 @@
 use native.Mathlib.Omega.{arith}
-use mathlib.Core.Path.{refl, sym, ◌∙◌}
+use mathlib.Core.Path.{sym, ◌∙◌}
 use Rattle.line.proofs.AddLaws.{add_refused, add_taken}
 use Rattle.line.proofs.add.Goals as goal
 

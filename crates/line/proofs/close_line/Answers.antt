@@ -1,6 +1,5 @@
 -- `line::close_line` meets its contract: the flag and the bits that are left of its last octet are one piece, poured out.
 use mathlib.Core.Path.{refl}
-use native.Mathlib.Omega.{arith}
 use Rattle.line.proofs.MoreLaws.{flag_fits, put_fits, closed_by}
 use Rattle.line.proofs.close_line.Goals as goal
 

@@ -29,7 +29,7 @@ sent_length-sent-requires c = all_bits c.args.frame.now c.requires
 pub overflow_add-sent : goal.overflow_add-sent
 overflow_add-sent c =
     let sent_is : c.sent_length-sent.result ≡ length (sent_as c.args.frame.now) =
-      c.sent_length-sent.ensures ∙ ap (λ b. length (stuff 4 b)) (whole_frame c.args.frame.now) in
+    c.sent_length-sent.ensures ∙ ap (λ b. length (stuff 4 b)) (whole_frame c.args.frame.now) in
     omega (arith, sent_is, sent_most c.args.frame.now)
 
 pub lacks-requires-2 : goal.lacks-requires-2
@@ -38,6 +38,6 @@ lacks-requires-2 c = tt
 pub returns : goal.returns
 returns c =
     let sent_is : c.sent_length-sent.result ≡ length (sent_as c.args.frame.now) =
-      c.sent_length-sent.ensures ∙ ap (λ b. length (stuff 4 b)) (whole_frame c.args.frame.now) in
+    c.sent_length-sent.ensures ∙ ap (λ b. length (stuff 4 b)) (whole_frame c.args.frame.now) in
     let a = c.args in
     room_for_it a.n a.begin c.sent_length-sent.result a.frame.now c.lacks-2.result (sent_is) c.lacks-2.ensures

@@ -1,5 +1,4 @@
 use native.Mathlib.Omega.{arith}
-use mathlib.Core.Path.{refl}
 use lib.ListN.{length-set}
 use Rattle.line.proofs.MoreLaws.{open_empty, open_more}
 use Rattle.line.proofs.open_line.Goals as goal

@@ -1,5 +1,5 @@
 -- `line::seek` meets its contract: what is left to look for is what was asked for.
-use Prim.Native.Nat.{◌+◌, ◌-◌, ◌≤◌}
+use Prim.Native.Nat.{◌+◌}
 use mathlib.Core.Path.{◌≡◌, refl, sym, ap, ◌∙◌}
 use mathlib.Core.Bool.{Bool}
 use mathlib.Core.List.{List}
@@ -11,7 +11,7 @@ use Rattle.bits.specs.Bits.{bits}
 use Rattle.bits.specs.Places.{until}
 use Rattle.bits.proofs.UntilLaws.{until_end}
 use Rattle.line.specs.Parts.{sought}
-use Rattle.bits.proofs.WindowLaws.{rest, window_fits}
+use Rattle.bits.proofs.WindowLaws.{window_fits}
 use Rattle.line.proofs.SeekLaws.{found, passed}
 use Rattle.line.proofs.seek.Goals as goal
 
