@@ -1,4 +1,6 @@
 // The calls of a line of bits for a host in C or Rust, on numbers and on slices that are lent.
+#![tactic(auto)]
+
 ghost use Rattle.std.specs.Prelude.{◌≡◌, length};
 ghost use Rattle.refusals.specs.Refusals.{◌or_else◌, if_taken};
 ghost use Rattle.line.specs.Calls.{add_answer, add_line, next_answer, next_out};
