@@ -1,5 +1,7 @@
 // The voice field of G.764, Figure 7, picked and read one bit at a time. An array's places are counted from 0, so that
 // sample n stands at n - 1.
+#![tactic(auto)]
+
 ghost use Rattle.std.specs.Prelude.{◌≡◌, ◌++◌, ◌+◌, ◌*◌, ◌<◌, ◌≤◌, length, drop};
 ghost use Rattle.plain_blocks.specs.Figure7.{picked_octet, picked_block, picked_blocks, read_bit, read_word, read_words};
 

@@ -1,0 +1,13 @@
+-- `pick_block` meets its contract: the octets picked so far, and the rest as it came.
+use Prim.Native.Nat.{ℕ, ◌+◌, ◌-◌, ◌≤◌}
+use native.Mathlib.Omega.{arith}
+use borrow.Author.Rules.{rules}
+use Rattle.plain_check.proofs.FillLaws.{Filled, begun, one_more, at_end}
+use Rattle.plain_blocks.specs.Figure7.{picked_octet, picked_block}
+use Rattle.plain_blocks.proofs.pick_block.Given as goal
+
+abbrev pub invariant-loop-j : goal.invariant-loop-j
+invariant-loop-j l = (l.j ≤ 16) × Filled (λ (k : ℕ). picked_octet l.s l.samples l.b (k + 1)) l.initial.block l.j l.block
+
+abbrev pub decreases-loop-j : goal.decreases-loop-j
+decreases-loop-j l = 16 - l.j
