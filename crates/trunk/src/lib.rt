@@ -1,4 +1,6 @@
 // The watch joined to the frames: what a signalling frame that is heard tells the watch.
+#![tactic(auto)]
+
 ghost use Rattle.std.specs.Prelude.{◌≡◌};
 ghost use Rattle.trunk.specs.Trunk.{event_of};
 
