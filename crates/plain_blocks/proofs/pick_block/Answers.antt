@@ -1,8 +1,7 @@
 -- `pick_block` meets its contract: the octets picked so far, and the rest as it came.
-use Prim.Native.Nat.{ℕ, ◌+◌, ◌-◌, ◌≤◌}
+use Prim.Native.Nat.{ℕ, ◌+◌}
 use native.Mathlib.Omega.{arith}
-use borrow.Author.Rules.{rules}
-use Rattle.plain_check.proofs.FillLaws.{Filled, begun, one_more, at_end}
+use Rattle.plain_check.proofs.FillLaws.{begun, one_more, at_end}
 use Rattle.plain_blocks.specs.Figure7.{picked_octet, picked_block}
 use Rattle.plain_blocks.proofs.pick_block.Goals as goal
 

@@ -1,14 +1,9 @@
 -- `pick_blocks` meets its contract: the blocks picked so far, and the rest as it came.
-use Prim.Native.Nat.{ℕ, ◌+◌, ◌-◌, ◌*◌, ◌≤◌}
-use mathlib.Core.Path.{◌≡◌, refl, sym, ap, ap₂, ◌∙◌}
-use mathlib.Core.List.{List, ◌++◌}
-use native.Mathlib.Omega.{arith}
-use borrow.Author.Rules.{rules}
-use borrow.Rule.Slice.PartMut.{same_len_mid}
+use Prim.Native.Nat.{◌-◌, ◌*◌, ◌≤◌}
+use mathlib.Core.Path.{◌≡◌}
+use mathlib.Core.List.{◌++◌}
 use lib.ListN.{length, drop}
-use Rattle.octets.proofs.PartLaws.{grown}
-use Rattle.plain_blocks.specs.Figure7.{picked_block, picked_blocks}
-use Rattle.plain_blocks.proofs.Figure7Laws.{block_length, blocks_length, blocks_none, blocks_more}
+use Rattle.plain_blocks.specs.Figure7.{picked_blocks}
 use Rattle.plain_blocks.proofs.pick_blocks.Given as goal
 
 abbrev pub invariant-loop-b : goal.invariant-loop-b

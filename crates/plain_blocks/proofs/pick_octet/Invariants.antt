@@ -1,14 +1,8 @@
 -- `pick_octet` meets its contract: the bits picked so far.
-use Prim.Native.Nat.{◌-◌, ◌≤◌, ◌<◌}
-use mathlib.Core.Path.{sym, ap, ◌∙◌, ◌≡◌, refl}
-use native.Mathlib.Omega.{arith}
-use borrow.Author.Rules.{rules}
+use Prim.Native.Nat.{◌-◌, ◌≤◌}
 use lib.ListN.{replicate}
-use Rattle.plain_check.specs.Bits.{bit, number}
-use Rattle.plain_check.proofs.FillLaws.{Filled, begun, one_more, all_filled}
-use Rattle.plain_blocks.specs.Figure7.{picked_octet}
-use Rattle.plain_blocks.proofs.Figure7Laws.{picked_bit, picked_at, eight_below}
-use Rattle.octets.specs.Octets.{tab}
+use Rattle.plain_check.proofs.FillLaws.{Filled}
+use Rattle.plain_blocks.proofs.Figure7Laws.{picked_bit}
 use Rattle.plain_blocks.proofs.pick_octet.Given as goal
 
 abbrev pub invariant-loop-k : goal.invariant-loop-k

@@ -1,7 +1,6 @@
 -- `read_bit` meets its contract.
 use Prim.Native.Nat.{◌+◌, ◌%◌}
 use mathlib.Core.Path.{ap, ◌∙◌}
-use borrow.Author.Rules.{rules}
 use Rattle.plain_check.specs.Bits.{bit}
 use Rattle.plain_blocks.proofs.Figure7Laws.{bit_at}
 use Rattle.plain_blocks.proofs.read_bit.Goals as goal

@@ -1,10 +1,9 @@
 -- `read_words` meets its contract: the words read so far.
-use Prim.Native.Nat.{ℕ, ◌+◌, ◌-◌, ◌≤◌}
+use Prim.Native.Nat.{ℕ, ◌+◌}
 use mathlib.Core.Path.{refl}
 use native.Mathlib.Omega.{arith}
-use borrow.Author.Rules.{rules}
 use lib.ListN.{replicate}
-use Rattle.plain_check.proofs.FillLaws.{Filled, begun, one_more, all_filled}
+use Rattle.plain_check.proofs.FillLaws.{begun, one_more, all_filled}
 use Rattle.plain_blocks.specs.Figure7.{read_word, read_words}
 use Rattle.plain_blocks.proofs.read_words.Goals as goal
 

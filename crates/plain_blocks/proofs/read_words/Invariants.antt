@@ -1,11 +1,8 @@
 -- `read_words` meets its contract: the words read so far.
 use Prim.Native.Nat.{ℕ, ◌+◌, ◌-◌, ◌≤◌}
-use mathlib.Core.Path.{refl}
-use native.Mathlib.Omega.{arith}
-use borrow.Author.Rules.{rules}
 use lib.ListN.{replicate}
-use Rattle.plain_check.proofs.FillLaws.{Filled, begun, one_more, all_filled}
-use Rattle.plain_blocks.specs.Figure7.{read_word, read_words}
+use Rattle.plain_check.proofs.FillLaws.{Filled}
+use Rattle.plain_blocks.specs.Figure7.{read_word}
 use Rattle.plain_blocks.proofs.read_words.Given as goal
 
 abbrev pub invariant-loop-i : goal.invariant-loop-i
