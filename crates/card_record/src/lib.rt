@@ -1,4 +1,6 @@
 // The endpoint's record for a host in C or Rust, as nine numbers: fresh, and moved on by a frame that comes.
+#![tactic(auto)]
+
 ghost use Rattle.std.specs.Prelude.{◌≡◌, ◌≤◌, length};
 ghost use Rattle.playout.specs.Play.{fresh_record};
 ghost use Rattle.card.specs.Card.{put as putBefore, written};
