@@ -1,4 +1,6 @@
 // What an endpoint without a record does for a host in C or Rust: the readers, fill and the noise levels.
+#![tactic(auto)]
+
 ghost use Rattle.std.specs.Prelude.{◌≡◌, [], ◌∷◌, length};
 ghost use Rattle.refusals.specs.Refusals.{◌or_else◌};
 ghost use Rattle.coding.specs.Noise.{noise_of, paper};
