@@ -1,4 +1,6 @@
 // What is done to a frame on its way: four passes, each of which can be read by itself.
+#![tactic(auto)]
+
 ghost use Rattle.std.specs.Prelude.{◌≡◌, ◌+◌, ◌-◌, ◌*◌, ◌^◌, ◌<◌, ◌≤◌, ◌++◌, length, drop};
 ghost use Rattle.plain_passes.specs.Passes.{wait_between, blocks_dropped, drop_pass, stamp_pass, address_pass, seal_pass, passed};
 
