@@ -1,4 +1,6 @@
 // A tray of frames in one call: the node's call on the frame of each record in turn.
+#![tactic(auto)]
+
 ghost use Rattle.std.specs.Prelude.{◌≡◌, ◌++◌, ◌+◌, ◌≤◌, length, drop};
 ghost use Rattle.onward.specs.Onward.{wait_of, onward};
 ghost use Rattle.onward.specs.Sent.{sent_answer, sent_buffer};

@@ -10,8 +10,7 @@ use Rattle.tray.specs.Tray.{whole}
 use Rattle.tray.specs.Parts.{record_size}
 use Rattle.tray.proofs.ReadLaws.{whole_known}
 use borrow.Author.Rules.{rules}
-use Rattle.tray.proofs.record_size.Statement.{statement}
-use Rattle.tray.proofs.record_size.Tie as tie
+use Rattle.tray.proofs.record_size.Goals as goal
 
 -- of length and kind as they were read
 judged : (r : List ℕ) (n k size : ℕ) → n ≡ following r → k ≡ kind r → size ≡ cond (eqb k 1 && leb 2 n && leb (2 + n) (length r)) (2 + n) 0 → size ≡ record_size r
@@ -26,31 +25,11 @@ none_there r h = go (whole r) refl where
   go true w = let k = whole_known r w in absurd (omega (arith, k.long, k.here))
   go false w = rw w
 
-returns : tie.Need-returns
-returns c = none_there c.before.before.args.rest.now c.if1.true
+pub returns-then-rest-lt4 : goal.returns-then-rest-lt4
+returns-then-rest-lt4 c = none_there c.args.rest.now c.if-rest-lt4.true
 
-two-octets-requires : tie.Need-two-octets-requires
-two-octets-requires c κs = tt
-
-two-octets-requires-2 : tie.Need-two-octets-requires-2
-two-octets-requires-2 c κs = tt
-
-add-whole : tie.Need-overflow-add-whole
-add-whole c = search rules
-
-add-pick : tie.Need-overflow-add-pick
-add-pick c = search rules
-
-pick-requires : tie.Need-pick-requires
-pick-requires c κs = tt
-
-returns-2 : tie.Need-returns-2
-returns-2 c =
-    let k = c.before.two-octets2 in
-    let n = c.before.before.two-octets in
-    judged c.before.before.before.before.before.args.rest.now n.result k.result c.pick.result n.ensures.0 k.ensures.0 c.pick.ensures
-
-pub record_size_spec : {M : Type 1} → statement M
-record_size_spec =
-    tie.close
-    (tie.spec returns two-octets-requires two-octets-requires-2 add-whole add-pick pick-requires returns-2)
+pub returns : goal.returns
+returns c =
+    let k = c.two_octets in
+    let n = c.two_octets-n in
+    judged c.args.rest.now n.result k.result c.pick.result n.ensures.0 k.ensures.0 c.pick.ensures

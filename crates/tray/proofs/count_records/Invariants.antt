@@ -1,0 +1,12 @@
+use Prim.Native.Nat.{◌-◌}
+use native.Mathlib.Omega.{arith}
+use lib.ListN.{length}
+use Rattle.tray.proofs.CountLaws.{CountedTo, count_start, count_size, count_next, count_over}
+use borrow.Author.Rules.{rules}
+use Rattle.tray.proofs.count_records.Given as goal
+
+abbrev pub invariant-loop-size : goal.invariant-loop-size
+invariant-loop-size l = CountedTo l.tray l.count l.end l.size
+
+abbrev pub decreases-loop-size : goal.decreases-loop-size
+decreases-loop-size l = length l.tray - l.end
