@@ -1,4 +1,6 @@
 // A voice frame that arrives, for a host in C or Rust: on a record of nine numbers that is moved on, or by value.
+#![tactic(auto)]
+
 ghost use Rattle.std.specs.Prelude.{◌≡◌, length};
 ghost use Rattle.refusals.specs.Refusals.{◌or_else◌};
 ghost use Rattle.card.specs.Card.{short, short_two, written};
