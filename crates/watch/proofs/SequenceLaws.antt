@@ -9,7 +9,7 @@ use borrow.Author.Tests.{eqb-true, not-false}
 use Rattle.octets.proofs.BoolLaws.{and_true}
 use Rattle.refusals.specs.Refusals.{◌or_else◌, if_taken}
 use Rattle.refusals.proofs.RefusalLaws.{refuse_zero}
-use Rattle.watch.specs.declared.Terminating.TheVariants.{Norm as NORM, LAlarm as L-ALARM}
+use Rattle.watch.specs.declared.Terminating.TheVariants.{LAlarm as L-ALARM}
 use Rattle.watch.specs.declared.Sends.{Sends}
 use Rattle.watch.specs.declared.Sends.TheVariants.{Nothing, Transition, Refresh}
 use Rattle.watch.specs.declared.Conditioning.TheVariants.{Unchanged}

@@ -1,4 +1,4 @@
-use Rattle.std.proofs.Common.{◌≡◌, ◌+◌, leb, ap, ◌∙◌}
+use Rattle.std.proofs.Common.{◌+◌, leb, ap, ◌∙◌}
 use Rattle.watch.proofs.TableLaws.{due_sends}
 use Rattle.watch.specs.Table.{table}
 use Rattle.watch.specs.declared.Terminating.TheVariants.{Norm as NORM}
