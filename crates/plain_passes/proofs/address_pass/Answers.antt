@@ -1,5 +1,5 @@
 -- `address_pass` meets its contract.
-use Rattle.std.proofs.Common.{arith, length-set, rules}
+use Rattle.std.proofs.Common.{arith, length-set}
 use Rattle.plain_passes.specs.Passes.{address_pass}
 use Rattle.plain_passes.proofs.address_pass.Goals as goal
 

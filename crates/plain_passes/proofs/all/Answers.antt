@@ -1,5 +1,5 @@
 -- `all` meets its contract: the passes one after another.
-use Rattle.std.proofs.Common.{◌≤◌, length, ap, ◌∙◌, arith, rules}
+use Rattle.std.proofs.Common.{◌≤◌, length, ap, ◌∙◌, arith}
 use Rattle.plain_passes.specs.Passes.{stamp_pass, address_pass, seal_pass, passed}
 use Rattle.plain_passes.proofs.PassLaws.{drop_length}
 use Rattle.plain_passes.proofs.all.Goals as goal

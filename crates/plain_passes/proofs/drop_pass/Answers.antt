@@ -1,5 +1,5 @@
 -- `drop_pass` meets its contract: the front and the check are copied, and octet 5 is set.
-use Rattle.std.proofs.Common.{◌≡◌, ℕ, ◌+◌, ◌-◌, ◌*◌, length, sym, refl, ◌∙◌, ap₂, arith, length-set, length-take, length-take-le, rules}
+use Rattle.std.proofs.Common.{◌≡◌, ℕ, ◌+◌, ◌-◌, ◌*◌, length, sym, refl, ◌∙◌, ap₂, arith, length-set, length-take, length-take-le}
 use borrow.Rule.Slice.PartMut.{put_mid, same_len_mid}
 use Rattle.plain_passes.specs.Passes.{blocks_dropped}
 use Rattle.plain_passes.proofs.PassLaws.{drop_length, drop_put}

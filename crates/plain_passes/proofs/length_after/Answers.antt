@@ -1,5 +1,5 @@
 -- `length_after` meets its contract.
-use Rattle.std.proofs.Common.{ℕ, ◌+◌, ◌-◌, ◌*◌, length, sym, ap, ◌∙◌, arith, rules}
+use Rattle.std.proofs.Common.{ℕ, ◌+◌, ◌-◌, ◌*◌, length, sym, ap, ◌∙◌, arith}
 use Rattle.plain_passes.proofs.PassLaws.{drop_length}
 use Rattle.plain_passes.proofs.length_after.Goals as goal
 

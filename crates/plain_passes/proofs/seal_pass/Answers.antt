@@ -1,5 +1,5 @@
 -- `seal_pass` meets its contract.
-use Rattle.std.proofs.Common.{sym, arith, length-set, length-take, length-take-le, rules}
+use Rattle.std.proofs.Common.{sym, arith, length-set, length-take, length-take-le}
 use Rattle.plain_passes.proofs.PassLaws.{seal_put}
 use Rattle.plain_passes.proofs.seal_pass.Goals as goal
 

@@ -1,5 +1,5 @@
 -- `send_on` meets its contract: the passes in the front of the buffer.
-use Rattle.std.proofs.Common.{ℕ, List, ◌++◌, drop, sym, ap, ◌∙◌, arith, length-take-le, rules}
+use Rattle.std.proofs.Common.{ℕ, List, ◌++◌, drop, sym, ap, ◌∙◌, arith, length-take-le}
 use Rattle.plain_passes.proofs.PassLaws.{passed_length}
 use Rattle.plain_passes.proofs.send_on.Goals as goal
 

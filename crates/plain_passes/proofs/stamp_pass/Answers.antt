@@ -1,5 +1,5 @@
 -- `stamp_pass` meets its contract.
-use Rattle.std.proofs.Common.{◌≡◌, ℕ, ◌+◌, min, set, ap, ◌∙◌, rules}
+use Rattle.std.proofs.Common.{◌≡◌, ℕ, ◌+◌, min, set, ap, ◌∙◌}
 use Rattle.octets.specs.Octets.{octet}
 use Rattle.plain_passes.specs.Passes.{stamp_pass}
 use Rattle.plain_passes.proofs.stamp_pass.Goals as goal
