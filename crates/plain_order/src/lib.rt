@@ -1,4 +1,6 @@
 // What is wrong with a frame: one question after another, in the order and the words of document 01.
+#![tactic(auto)]
+
 ghost use Rattle.std.specs.Prelude.{◌≡◌, ◌≤◌, length};
 ghost use Rattle.plain_order.specs.Order.{length_wrong, address_wrong, control_wrong, command_or_poll, check_wrong, protocol_wrong, coding_wrong, dropping_wrong, size_wrong, stamp_wrong, link_order, layout_order, taken_order, read_order};
 

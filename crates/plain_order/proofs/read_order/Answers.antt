@@ -1,0 +1,22 @@
+-- `read_order` meets its contract.
+use mathlib.Core.Path.{refl, sym, ◌∙◌}
+use borrow.Author.Rules.{rules}
+use Rattle.refusals.proofs.RefusalLaws.{or_else_take, or_else_pass}
+use Rattle.plain_order.specs.Order.{read_order}
+use Rattle.plain_order.proofs.read_order.Goals as goal
+
+pub returns-then-link-ne0 : goal.returns-then-link-ne0
+unfolding read_order
+returns-then-link-ne0 c = or_else_take _ _ _ c.link_order-link.ensures c.if-link-ne0.true
+
+pub returns-then-not-is_voice : goal.returns-then-not-is_voice
+unfolding read_order
+returns-then-not-is_voice c = or_else_pass _ _ _ _ c.link_order-link.ensures c.if-link-ne0.false (rw (sym c.is_voice.ensures ∙ c.if-not-is_voice.true) refl)
+
+pub returns-then-coding_wrong : goal.returns-then-coding_wrong
+unfolding read_order
+returns-then-coding_wrong c = or_else_pass _ _ _ _ c.link_order-link.ensures c.if-link-ne0.false (rw (sym c.is_voice.ensures ∙ c.if-not-is_voice.false, sym c.coding_wrong.ensures ∙ c.if-coding_wrong.true) refl)
+
+pub returns : goal.returns
+unfolding read_order
+returns c = or_else_pass _ _ _ _ c.link_order-link.ensures c.if-link-ne0.false (rw (sym c.is_voice.ensures ∙ c.if-not-is_voice.false, sym c.coding_wrong.ensures ∙ c.if-coding_wrong.false) c.layout_order.ensures)
