@@ -1,4 +1,6 @@
 // The octets that a level gives back of a frame, and the totals that a queue keeps of levels 1, 2 and 3.
+#![tactic(auto)]
+
 ghost use Rattle.std.specs.Prelude.{◌≡◌, ℕ, ◌-◌, ◌*◌, ◌<◌, ◌≤◌, min, List, length};
 ghost use Rattle.totals.specs.Totals.{total, raised, lowered, any_above};
 ghost use Rattle.totals.specs.Parts.{droppable, Totalled};
