@@ -1,8 +1,5 @@
-use Prim.Native.Nat.{◌-◌}
 use native.Mathlib.Omega.{arith}
-use lib.ListN.{length}
-use Rattle.tray.proofs.CountLaws.{CountedTo, count_start, count_size, count_next, count_over}
-use borrow.Author.Rules.{rules}
+use Rattle.tray.proofs.CountLaws.{count_start, count_size, count_next, count_over}
 use Rattle.tray.proofs.count_records.Goals as goal
 
 pub loop-size-init : goal.loop-size-init

@@ -1,8 +1,6 @@
 use Prim.Native.Nat.{◌-◌}
-use native.Mathlib.Omega.{arith}
 use lib.ListN.{length}
-use Rattle.tray.proofs.CountLaws.{CountedTo, count_start, count_size, count_next, count_over}
-use borrow.Author.Rules.{rules}
+use Rattle.tray.proofs.CountLaws.{CountedTo}
 use Rattle.tray.proofs.count_records.Given as goal
 
 abbrev pub invariant-loop-size : goal.invariant-loop-size

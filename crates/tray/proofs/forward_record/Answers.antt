@@ -1,7 +1,6 @@
 use native.Mathlib.Omega.{arith}
 use Rattle.onward.specs.Onward.{wait_of}
 use Rattle.tray.proofs.RecordLaws.{record_refused, record_room, head_room, record_done}
-use borrow.Author.Rules.{rules}
 use Rattle.tray.proofs.forward_record.Goals as goal
 
 pub returns-then-sent-ne0 : goal.returns-then-sent-ne0

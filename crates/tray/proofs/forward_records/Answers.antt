@@ -1,9 +1,8 @@
-use Prim.Native.Nat.{◌+◌, ◌-◌, ◌≤◌}
+use Prim.Native.Nat.{◌+◌, ◌≤◌}
 use native.Mathlib.Omega.{arith}
 use lib.ListN.{length}
 use Rattle.onward.specs.Onward.{wait_of}
-use Rattle.tray.proofs.RunLaws.{Run, run_start, run_size, run_next, run_over}
-use borrow.Author.Rules.{rules}
+use Rattle.tray.proofs.RunLaws.{run_start, run_size, run_next, run_over}
 use Rattle.tray.proofs.forward_records.Goals as goal
 
 pub loop-i-init : goal.loop-i-init

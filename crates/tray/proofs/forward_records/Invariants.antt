@@ -1,9 +1,6 @@
-use Prim.Native.Nat.{◌+◌, ◌-◌, ◌≤◌}
-use native.Mathlib.Omega.{arith}
-use lib.ListN.{length}
+use Prim.Native.Nat.{◌-◌}
 use Rattle.onward.specs.Onward.{wait_of}
-use Rattle.tray.proofs.RunLaws.{Run, run_start, run_size, run_next, run_over}
-use borrow.Author.Rules.{rules}
+use Rattle.tray.proofs.RunLaws.{Run}
 use Rattle.tray.proofs.forward_records.Given as goal
 
 abbrev pub invariant-loop-i : goal.invariant-loop-i

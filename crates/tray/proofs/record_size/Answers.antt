@@ -9,7 +9,6 @@ use Rattle.octets.specs.Records.{following, kind}
 use Rattle.tray.specs.Tray.{whole}
 use Rattle.tray.specs.Parts.{record_size}
 use Rattle.tray.proofs.ReadLaws.{whole_known}
-use borrow.Author.Rules.{rules}
 use Rattle.tray.proofs.record_size.Goals as goal
 
 -- of length and kind as they were read
