@@ -1,4 +1,6 @@
 // The call of a tray for a host in C or Rust, on numbers and on slices that are lent.
+#![tactic(auto)]
+
 ghost use Rattle.std.specs.Prelude.{◌≡◌};
 ghost use Rattle.refusals.specs.Refusals.{◌or_else◌, if_taken};
 ghost use Rattle.onward.specs.Onward.{wait_of};
