@@ -9,6 +9,9 @@ use lib.Dec.{leb, ltb}
 use lib.ListN.{length, take, drop, get_or, set, length-append, length-take, length-drop, drop_of_length-le}
 use lib.Seq.{sets, sets-eq, length-sets, length-take-le, get_or-append-add, get_or-drop, take_at, take-append-le, take-take, take-add, drop_at, drop-append-le, drop-drop}
 use borrow.Rule.Slice.PartMut.{put_mid}
+use Rattle.std.specs.Result.{IfOk, result_unwrap_or}
+use Rattle.std.specs.Counts.{IsPrefixLen}
+use Rattle.std.specs.Prelude.{Result, Ok, Err}
 use borrow.Author.Tests.{leb-true, ltb-true, ltb-false, not-false}
 use Rattle.octets.proofs.PartLaws.{copied_more, tail_put}
 use Rattle.octets.proofs.BoolLaws.{and_true, or_false}
@@ -33,6 +36,11 @@ moved_more old from i h =
     rw e (copied_more (drop from old) old i (omega arith) (omega arith))
 
 -- what was moved to the front stays there when the rest of the buffer is read into
+-- what a read put into the part of a buffer that it was lent; a read that fails put nothing
+pub read_within : {E : Type 0} (r : Result ℕ E) (part : List ℕ) → IfOk r (λ n. IsPrefixLen n part) → result_unwrap_or r 0 ≤ length part
+read_within (Ok n) part h = omega (arith, h)
+read_within (Err e) part h = omega arith
+
 pub filled_front : (old m p : List ℕ) (from to more : ℕ) → from ≤ to → to ≤ length old → m ≡ take (to - from) (drop from old) ++ drop (to - from) old
     → take (to - from) (take (to - from + more - 0) (drop 0 (put_mid (to - from) (length m - (to - from)) m p))) ≡ take (to - from) (drop from old)
 filled_front old m p from to more h k e =

@@ -1,4 +1,6 @@
 // The program `walk` on slices: a record's step, the line it prints, and the stream of records.
+#![tactic(auto)]
+
 ghost use Rattle.std.specs.Prelude.{◌≡◌, ℕ, ◌+◌, ◌-◌, ◌*◌, ◌^◌, ◌≤◌, ◌<◌, List, [], ◌∷◌, ◌++◌, length, take, drop, true, false};
 ghost use Rattle.onward.specs.Sent.{sent_answer, sent_buffer};
 ghost use Rattle.walking.specs.Text.{digits, number, after_number, line, stop_line, Put};
@@ -10,6 +12,7 @@ use octets::two_octets;
 use onward::Sent;
 use origin::Step;
 use playout::Endpoint;
+use std::io::{Read, Write};
 
 // What is carried on from record to record. A voice frame has at most 138 octets; length says how many of frame are it.
 #[derive(Clone, Copy)]
@@ -393,7 +396,7 @@ fn move_front(buffer: &mut [u8], from: usize, to: usize)
 }
 
 // Reads once, where the next record may not be all in the buffer. A read that fails counts as the end of the input.
-fn fill(input: i32, flow: Flow, buffer: &mut [u8]) -> Flow
+fn fill<R: Read>(input: &mut R, flow: Flow, buffer: &mut [u8]) -> Flow
     requires { (flow.from ≤ flow.have) × (flow.have ≤ length buffer.old) }
     ensures { Filled flow buffer.old buffer.new result }
 {
@@ -404,8 +407,7 @@ fn fill(input: i32, flow: Flow, buffer: &mut [u8]) -> Flow
     }
     move_front(buffer, from, have);
     let left = have - from;
-    let got = libc::read(input, &mut buffer[left..]);
-    let more = io::count(got, &buffer[left..]);
+    let more = input.read(&mut buffer[left..]).unwrap_or(0);
     let state = flow.state;
     Flow {
         state,
@@ -418,7 +420,7 @@ fn fill(input: i32, flow: Flow, buffer: &mut [u8]) -> Flow
 }
 
 // Writes what was collected, where the next line may have no room or none comes.
-fn flush(flow: Flow, out: &[u8]) -> Flow
+fn flush<W: Write>(output: &mut W, flow: Flow, out: &[u8]) -> Flow
     requires { flow.end ≤ length out.now }
     ensures { Flushed flow out.now result }
 {
@@ -426,7 +428,7 @@ fn flush(flow: Flow, out: &[u8]) -> Flow
     if flow.going & (147 <= out.len() - end) {
         return flow;
     }
-    let written = io::write_all(libc::STDOUT_FILENO, &out[..end]);
+    let written = output.write_all(&out[..end]).is_ok();
     let state = flow.state;
     Flow {
         state,
@@ -438,7 +440,7 @@ fn flush(flow: Flow, out: &[u8]) -> Flow
     }
 }
 
-fn stream(input: i32, buffer: &mut [u8], out: &mut [u8]) {
+fn stream<R: Read, W: Write>(input: &mut R, output: &mut W, buffer: &mut [u8], out: &mut [u8]) {
     let mut flow = Flow {
         state: at_first(),
         from: 0,
@@ -451,14 +453,14 @@ fn stream(input: i32, buffer: &mut [u8], out: &mut [u8]) {
     while (0 < turns) & flow.going {
         let filled = fill(input, flow, buffer);
         let passed = pass(filled, buffer, out);
-        flow = flush(passed, out);
+        flow = flush(output, passed, out);
         turns -= 1;
     }
 }
 
-// All that the program `walk` does: reads records, and writes a line for each to standard output.
-pub fn run(input: i32) {
-    let mut buffer = io::large_buffer();
-    let mut out = io::large_buffer();
-    stream(input, &mut buffer, &mut out);
+// All that the program `walk` does: reads records, and writes a line for each.
+pub fn run<R: Read, W: Write>(input: &mut R, output: &mut W) {
+    let mut buffer = [0u8; 65536];
+    let mut out = [0u8; 65536];
+    stream(input, output, &mut buffer, &mut out);
 }

@@ -15,8 +15,7 @@ use Rattle.walking.specs.declared.State.{State}
 use Rattle.walking.specs.Walk.{told, made}
 use Rattle.walking.specs.Held.{carried_of}
 use Rattle.walking.proofs.OutcomeLaws.{take_within, told_frame, kept_frame}
-use Rattle.walking.proofs.made.Statement.{statement}
-use Rattle.walking.proofs.made.Tie as tie
+use Rattle.walking.proofs.made.Goals as goal
 
 -- the outcome, of the steps on the way to it: k octets of the buffer are the frame, and n of them are told of
 whole_of : (state : State) (kind sseq : ℕ) (sent : Sent) (buffer : List ℕ) (k n last : ℕ) (t : List ℕ) → length buffer ≡ 138
@@ -37,50 +36,36 @@ whole_of state kind sseq sent buffer k n last t size pk pn pl pt refusal written
     pt ∙ ap₂ (λ (x y : ℕ). told state.number kind x (take n buffer) (y ∷ [])) r pl in
     ap₂ (λ (x l : List ℕ). record { carried = record { number = state.number; sseq = sseq; endpoint = state.endpoint; frame = x }; told = l }) f (u ∙ w)
 
-pick-requires : tie.Need-pick-requires
-pick-requires c κs = tt
+pub pick-length-requires : goal.pick-length-requires
+pick-length-requires c = tt
 
-lesser-requires : tie.Need-lesser-requires
-lesser-requires c κs = tt
+pub lesser-n-requires : goal.lesser-n-requires
+lesser-n-requires c = tt
 
-array-share-prefix-frame : tie.Need-array-share-prefix-frame
-array-share-prefix-frame c = omega arith
+pub slice_bounds-frame-end : goal.slice_bounds-frame-end
+slice_bounds-frame-end c = omega arith
 
-slice-aggregate-field-c : tie.Need-slice-aggregate-field-c
-slice-aggregate-field-c c = sym (length-take-le _ _ (omega arith))
+pub slice_bounds-field_c-end : goal.slice_bounds-field_c-end
+slice_bounds-field_c-end c = sym (length-take-le _ _ (omega arith))
 
-field-c-requires : tie.Need-field-c-requires
-field-c-requires c κs = tt
+pub field_c-c-requires : goal.field_c-c-requires
+field_c-c-requires c = tt
 
-array-share-prefix-frame-2 : tie.Need-array-share-prefix-frame-2
-array-share-prefix-frame-2 c = omega arith
+pub slice_bounds-frame-end-2 : goal.slice_bounds-frame-end-2
+slice_bounds-frame-end-2 c = omega arith
 
-slice-aggregate-tell : tie.Need-slice-aggregate-tell
-slice-aggregate-tell c = sym (length-take-le _ _ (omega arith))
+pub slice_bounds-tell-end : goal.slice_bounds-tell-end
+slice_bounds-tell-end c = sym (length-take-le _ _ (omega arith))
 
-tell-requires : tie.Need-tell-requires
-tell-requires c κs = omega arith
+pub tell-told-requires : goal.tell-told-requires
+tell-told-requires c = omega arith
 
-returns : tie.Need-returns
+pub returns : goal.returns
 returns c =
-    let t = c.before.tell in
-    let f = c.before.before.before.field-c in
-    let l = c.before.before.before.before.before in
-    let k = l.before.pick in
-    let s = l.before.before in
+    let t = c.tell-told in
+    let f = c.field_c-c in
+    let l = c.before in
+    let k = l.pick-length in
+    let s = l.before in
     let a = s.args in
-    (whole_of a.state a.kind a.sseq a.sent a.t5 k.result l.lesser.result f.result (take t.result.count t.result.numbers) (omega (arith, s.well-formed)) k.ensures l.lesser.ensures f.ensures.0 t.ensures.0, t.ensures.1)
-
-pub made_spec : {M : Type 1} → statement M
-made_spec =
-    tie.close
-    (tie.spec
-    pick-requires
-    lesser-requires
-    array-share-prefix-frame
-    slice-aggregate-field-c
-    field-c-requires
-    array-share-prefix-frame-2
-    slice-aggregate-tell
-    tell-requires
-    returns)
+    (whole_of a.state a.kind a.sseq a.sent a.frame k.result l.lesser-n.result f.result (take t.result.count t.result.numbers) (omega (arith, s.well_formed)) k.ensures l.lesser-n.ensures f.ensures.0 t.ensures.0, t.ensures.1)

@@ -13,8 +13,7 @@ use Rattle.walking.specs.declared.State.{State}
 use Rattle.walking.specs.Walk.{four, forwarding, room, by_node}
 use Rattle.walking.specs.Held.{carried_of}
 use Rattle.walking.proofs.OutcomeLaws.{take_within}
-use Rattle.walking.proofs.by_node.Statement.{statement}
-use Rattle.walking.proofs.by_node.Tie as tie
+use Rattle.walking.proofs.by_node.Goals as goal
 
 -- what the node answers and leaves, of the steps on the way to it: n octets of the buffer are the frame
 sent_on_lem : (state : State) (whole : List ℕ) (level wait n : ℕ) (buffer : List ℕ)
@@ -28,60 +27,44 @@ sent_on_lem state whole level wait n buffer pl pw pn pb size sent x es ex =
     ap (λ (k : ℕ). take k buffer) pn ∙ take_within state.length 138 buffer size ∙ ap (take state.length) pb in
     (es ∙ rw (pl, pw, w, size), ex ∙ rw (pl, pw, w, size, pb))
 
-at-requires : tie.Need-at-requires
-at-requires c κs = tt
+pub at-level-requires : goal.at-level-requires
+at-level-requires c = tt
 
-cast-level : tie.Need-overflow-cast-level
-cast-level c = omega arith
+pub overflow_cast-level : goal.overflow_cast-level
+overflow_cast-level c = omega arith
 
-four-octets-requires : tie.Need-four-octets-requires
-four-octets-requires c κs = omega arith
+pub four_octets-wait-requires : goal.four_octets-wait-requires
+four_octets-wait-requires c = omega arith
 
-lesser-requires : tie.Need-lesser-requires
-lesser-requires c κs = tt
+pub lesser-n-requires : goal.lesser-n-requires
+lesser-n-requires c = tt
 
-sized-requires : tie.Need-sized-requires
-sized-requires c κs = tt
+pub sized-last-requires : goal.sized-last-requires
+sized-last-requires c = tt
 
-array-share-prefix-last : tie.Need-array-share-prefix-last
-array-share-prefix-last c = omega arith
+pub slice_bounds-last-end : goal.slice_bounds-last-end
+slice_bounds-last-end c = omega arith
 
-slice-aggregate-forward : tie.Need-slice-aggregate-forward
-slice-aggregate-forward c = sym (length-take-le _ _ (omega arith))
+pub slice_bounds-forward-end : goal.slice_bounds-forward-end
+slice_bounds-forward-end c = sym (length-take-le _ _ (omega arith))
 
-slice-aggregate-forward-2 : tie.Need-slice-aggregate-forward-2
-slice-aggregate-forward-2 c = omega arith
+pub slice_bounds-forward-end-2 : goal.slice_bounds-forward-end-2
+slice_bounds-forward-end-2 c = omega arith
 
-forward-requires : tie.Need-forward-requires
-forward-requires c κs = tt
+pub forward-sent-requires : goal.forward-sent-requires
+forward-sent-requires c = tt
 
-made-requires : tie.Need-made-requires
-made-requires c κs = tt
+pub made-requires : goal.made-requires
+made-requires c = tt
 
-returns : tie.Need-returns
+pub returns : goal.returns
 unfolding by_node
 returns c =
-    let q = c.before.before.forward in
-    let z = c.before.before.before.before.before in
-    let n = z.before.before.lesser in
-    let k = z.before.before.before.four-octets in
-    let l = z.before.before.before.before.at in
-    let a = z.before.before.before.before.before.before.args in
-    let p = sent_on_lem a.state a.whole.now l.result k.result n.result z.sized.result l.ensures.0 k.ensures n.ensures z.sized.ensures.0 z.sized.ensures.1 q.result q.new.1.1.1.1.1.0 q.ensures.0 q.ensures.1 in
+    let q = c.forward-sent in
+    let z = c.before in
+    let n = z.lesser-n in
+    let k = z.four_octets-wait in
+    let l = z.at-level in
+    let a = z.args in
+    let p = sent_on_lem a.state a.whole.now l.result k.result n.result z.sized-last.result l.ensures.0 k.ensures n.ensures z.sized-last.ensures.0 z.sized-last.ensures.1 q.result q.new.out q.ensures.answer q.ensures.buffer in
     (c.made.ensures.0 (forwarding forward_refusal (carried_of a.state) a.whole.now room) (forwarding onward (carried_of a.state) a.whole.now) p.0 p.1, c.made.ensures.1)
-
-pub by_node_spec : {M : Type 1} → statement M
-by_node_spec =
-    tie.close
-    (tie.spec
-    at-requires
-    cast-level
-    four-octets-requires
-    lesser-requires
-    sized-requires
-    array-share-prefix-last
-    slice-aggregate-forward
-    slice-aggregate-forward-2
-    forward-requires
-    made-requires
-    returns)

@@ -14,8 +14,7 @@ use Rattle.walking.specs.declared.State.{State}
 use Rattle.walking.specs.Walk.{four, sending, room, made, by_origin}
 use Rattle.walking.specs.Held.{carried_of}
 use Rattle.walking.proofs.OutcomeLaws.{tail_within}
-use Rattle.walking.proofs.by_origin.Statement.{statement}
-use Rattle.walking.proofs.by_origin.Tie as tie
+use Rattle.walking.proofs.by_origin.Goals as goal
 
 -- what the origin answers and leaves, of the steps on the way to it
 sent_out : (state : State) (whole : List ℕ) (number coding noise level wait start : ℕ) (step : Step) (buffer : List ℕ)
@@ -34,95 +33,72 @@ sent_out state whole number coding noise level wait start step buffer pm ps pt p
     ap (λ (k : ℕ). take (length whole - k) (drop k whole)) pk ∙ tail_within 12 whole in
     (es ∙ rw (ps, pm, pt, pn, pl, pw, v, size), ex ∙ rw (ps, pm, pt, pn, pl, pw, v, size, pb), eq ∙ rw (ps, pm, pt, pn, pl, pw, v, size))
 
-at-requires : tie.Need-at-requires
-at-requires c κs = tt
+pub at-requires : goal.at-requires
+at-requires c = tt
 
-step-numbered-requires : tie.Need-step-numbered-requires
-step-numbered-requires c κs = tt
+pub step_numbered-step-requires : goal.step_numbered-step-requires
+step_numbered-step-requires c = tt
 
-at-requires-2 : tie.Need-at-requires-2
-at-requires-2 c κs = tt
+pub at-coding-requires : goal.at-coding-requires
+at-coding-requires c = tt
 
-cast-coding : tie.Need-overflow-cast-coding
-cast-coding c = omega arith
+pub overflow_cast-coding : goal.overflow_cast-coding
+overflow_cast-coding c = omega arith
 
-at-requires-3 : tie.Need-at-requires-3
-at-requires-3 c κs = tt
+pub at-noise-requires : goal.at-noise-requires
+at-noise-requires c = tt
 
-cast-noise : tie.Need-overflow-cast-noise
-cast-noise c = omega arith
+pub overflow_cast-noise : goal.overflow_cast-noise
+overflow_cast-noise c = omega arith
 
-at-requires-4 : tie.Need-at-requires-4
-at-requires-4 c κs = tt
+pub at-level-requires : goal.at-level-requires
+at-level-requires c = tt
 
-cast-level : tie.Need-overflow-cast-level
-cast-level c = omega arith
+pub overflow_cast-level : goal.overflow_cast-level
+overflow_cast-level c = omega arith
 
-four-octets-requires : tie.Need-four-octets-requires
-four-octets-requires c κs = omega arith
+pub four_octets-wait-requires : goal.four_octets-wait-requires
+four_octets-wait-requires c = omega arith
 
-lesser-requires : tie.Need-lesser-requires
-lesser-requires c κs = tt
+pub lesser-samples-requires : goal.lesser-samples-requires
+lesser-samples-requires c = tt
 
-sized-requires : tie.Need-sized-requires
-sized-requires c κs = tt
+pub sized-frame-requires : goal.sized-frame-requires
+sized-frame-requires c = tt
 
-sub-send : tie.Need-overflow-sub-send
-sub-send c = omega arith
+pub slice_bounds-send-count : goal.slice_bounds-send-count
+slice_bounds-send-count c = omega arith
 
-part-send-start : tie.Need-slice-bounds-send-start
-part-send-start c = omega arith
+pub slice_bounds-send-start : goal.slice_bounds-send-start
+slice_bounds-send-start c = omega arith
 
-part-send-end : tie.Need-slice-bounds-send-end
-part-send-end c = omega arith
+pub slice_bounds-send-end : goal.slice_bounds-send-end
+slice_bounds-send-end c = omega arith
 
-slice-aggregate-send : tie.Need-slice-aggregate-send
-slice-aggregate-send c = omega arith
+pub slice_bounds-send-end-2 : goal.slice_bounds-send-end-2
+slice_bounds-send-end-2 c = omega arith
 
-send-requires : tie.Need-send-requires
-send-requires c κs = tt
+pub send-sent-requires : goal.send-sent-requires
+send-sent-requires c = tt
 
-made-requires : tie.Need-made-requires
-made-requires c κs = tt
+pub made-requires : goal.made-requires
+made-requires c = tt
 
-returns : tie.Need-returns
+pub returns : goal.returns
 unfolding by_origin
 returns c =
-    let q = c.before.before.send in
-    let z = c.before.before.before.before.before.before in
-    let k = z.before.before.lesser in
-    let w = z.before.before.before.four-octets in
-    let l = z.before.before.before.before.at4 in
-    let n = z.before.before.before.before.before.at3 in
-    let t = z.before.before.before.before.before.before.at2 in
-    let p = z.before.before.before.before.before.before.before in
-    let m = p.before.at in
-    let a = p.before.before.before.args in
-    let o = sent_out a.state a.whole.now m.result t.result n.result l.result w.result k.result p.step-numbered.result z.sized.result m.ensures.0 p.step-numbered.ensures t.ensures.0 n.ensures.0 l.ensures.0 w.ensures k.ensures z.sized.ensures.0 z.sized.ensures.1 q.result q.new.1.1.1.1.1.1.1.1.1.0 q.new.0 q.ensures.0 q.ensures.1.0 q.ensures.1.1 in (
+    let q = c.send-sent in
+    let z = c.before in
+    let k = z.lesser-samples in
+    let w = z.four_octets-wait in
+    let l = z.at-level in
+    let n = z.at-noise in
+    let t = z.at-coding in
+    let p = z.before in
+    let m = p.at in
+    let a = p.args in
+    let o = sent_out a.state a.whole.now m.result t.result n.result l.result w.result k.result p.step_numbered-step.result z.sized-frame.result m.ensures.0 p.step_numbered-step.ensures t.ensures.0 n.ensures.0 l.ensures.0 w.ensures k.ensures z.sized-frame.ensures.0 z.sized-frame.ensures.1 q.result q.new.out q.new.sseq q.ensures.answer q.ensures.buffer q.ensures.sseq in (
       c.made.ensures.0 (sending send_refusal (carried_of a.state) a.whole.now room) (sending send_written (carried_of a.state) a.whole.now) o.0 o.1
           ∙ ap (λ (i : ℕ). made (carried_of a.state) 1 i (sending send_refusal (carried_of a.state) a.whole.now room) (sending send_written (carried_of a.state) a.whole.now)) o.2,
       c.made.ensures.1,
     )
-
-pub by_origin_spec : {M : Type 1} → statement M
-by_origin_spec =
-    tie.close
-    (tie.spec
-    at-requires
-    step-numbered-requires
-    at-requires-2
-    cast-coding
-    at-requires-3
-    cast-noise
-    at-requires-4
-    cast-level
-    four-octets-requires
-    lesser-requires
-    sized-requires
-    sub-send
-    part-send-start
-    part-send-end
-    slice-aggregate-send
-    send-requires
-    made-requires
-    returns)

@@ -10,8 +10,7 @@ use Rattle.walking.specs.declared.State.{State}
 use Rattle.walking.specs.Walk.{four, told, arriving, by_endpoint}
 use Rattle.walking.specs.Held.{carried_of}
 use Rattle.walking.proofs.OutcomeLaws.{take_within}
-use Rattle.walking.proofs.by_endpoint.Statement.{statement}
-use Rattle.walking.proofs.by_endpoint.Tie as tie
+use Rattle.walking.proofs.by_endpoint.Goals as goal
 
 -- the outcome, of the steps on the way to it: n octets of the buffer are the frame
 arrived : (state : State) (whole : List ℕ) (n clock : ℕ) (buffer : List ℕ) (q : Arrived) (t : List ℕ)
@@ -32,61 +31,17 @@ arrived state whole n clock buffer q t pn pb pl pc pq pt =
       told = told state.number 3 x.answer.refusal (take state.length state.frame) (x.answer.due ∷ x.answer.dropped ∷ []);
     }) e
 
-four-octets-requires : tie.Need-four-octets-requires
-four-octets-requires c κs = omega arith
+pub slice_bounds-arrive_value-end : goal.slice_bounds-arrive_value-end
+slice_bounds-arrive_value-end c = sym (length-take-le _ _ (omega arith))
 
-cast-clock : tie.Need-overflow-cast-clock
-cast-clock c = omega arith
+pub slice_bounds-tell-end : goal.slice_bounds-tell-end
+slice_bounds-tell-end c = sym (length-take-le _ _ (omega arith))
 
-lesser-requires : tie.Need-lesser-requires
-lesser-requires c κs = tt
-
-sized-requires : tie.Need-sized-requires
-sized-requires c κs = tt
-
-array-share-prefix-frame : tie.Need-array-share-prefix-frame
-array-share-prefix-frame c = omega arith
-
-slice-aggregate-arrive-value : tie.Need-slice-aggregate-arrive-value
-slice-aggregate-arrive-value c = sym (length-take-le _ _ (omega arith))
-
-arrive-value-requires : tie.Need-arrive-value-requires
-arrive-value-requires c κs = tt
-
-array-share-prefix-frame-2 : tie.Need-array-share-prefix-frame-2
-array-share-prefix-frame-2 c = omega arith
-
-slice-aggregate-tell : tie.Need-slice-aggregate-tell
-slice-aggregate-tell c = sym (length-take-le _ _ (omega arith))
-
-cast-tell : tie.Need-overflow-cast-tell
-cast-tell c = omega arith
-
-tell-requires : tie.Need-tell-requires
-tell-requires c κs = omega arith
-
-returns : tie.Need-returns
+pub returns : goal.returns
 returns c =
-    let z = c.before.before.before.before.before.before.before.before in
-    let n = z.before.before.lesser in
-    let k = z.before.before.before.four-octets in
-    let q = c.before.before.before.before.before.arrive-value in
-    let a = z.before.before.before.before.before.args in
-    (arrived a.state a.whole.now n.result k.result z.sized.result q.result (take c.tell.result.count c.tell.result.numbers) n.ensures z.sized.ensures.0 z.sized.ensures.1 k.ensures q.ensures c.tell.ensures.0, c.tell.ensures.1)
-
-pub by_endpoint_spec : {M : Type 1} → statement M
-by_endpoint_spec =
-    tie.close
-    (tie.spec
-    four-octets-requires
-    cast-clock
-    lesser-requires
-    sized-requires
-    array-share-prefix-frame
-    slice-aggregate-arrive-value
-    arrive-value-requires
-    array-share-prefix-frame-2
-    slice-aggregate-tell
-    cast-tell
-    tell-requires
-    returns)
+    let z = c.before in
+    let n = z.lesser-n in
+    let k = z.four_octets-clock in
+    let q = c.arrive_value-arrived in
+    let a = z.args in
+    (arrived a.state a.whole.now n.result k.result z.sized-frame.result q.result (take c.tell-told.result.count c.tell-told.result.numbers) n.ensures z.sized-frame.ensures.0 z.sized-frame.ensures.1 k.ensures q.ensures c.tell-told.ensures.0, c.tell-told.ensures.1)
