@@ -1,5 +1,4 @@
 -- `address_wrong` meets its contract.
-use borrow.Author.Rules.{rules}
 use Rattle.plain_order.specs.Order.{address_wrong}
 use Rattle.plain_order.proofs.address_wrong.Goals as goal
 

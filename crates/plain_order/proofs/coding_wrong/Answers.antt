@@ -1,5 +1,4 @@
 -- `coding_wrong` meets its contract.
-use borrow.Author.Rules.{rules}
 use Rattle.plain_order.specs.Order.{coding_wrong}
 use Rattle.plain_order.proofs.coding_wrong.Goals as goal
 

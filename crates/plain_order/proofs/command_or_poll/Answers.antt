@@ -1,5 +1,4 @@
 -- `command_or_poll` meets its contract.
-use borrow.Author.Rules.{rules}
 use Rattle.plain_order.specs.Order.{command_or_poll}
 use Rattle.plain_order.proofs.command_or_poll.Goals as goal
 

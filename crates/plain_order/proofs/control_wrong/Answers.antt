@@ -1,5 +1,4 @@
 -- `control_wrong` meets its contract.
-use borrow.Author.Rules.{rules}
 use Rattle.plain_order.specs.Order.{control_wrong}
 use Rattle.plain_order.proofs.control_wrong.Goals as goal
 

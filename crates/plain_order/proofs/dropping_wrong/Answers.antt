@@ -1,5 +1,4 @@
 -- `dropping_wrong` meets its contract.
-use borrow.Author.Rules.{rules}
 use Rattle.plain_order.specs.Order.{dropping_wrong}
 use Rattle.plain_order.proofs.dropping_wrong.Goals as goal
 

@@ -1,7 +1,6 @@
 -- `layout_order` meets its contract: each question was answered no until the one that is answered yes.
 use mathlib.Core.Path.{◌≡◌, refl, sym, ◌∙◌}
 use mathlib.Core.Bool.{false}
-use borrow.Author.Rules.{rules}
 use Rattle.plain_order.specs.Order.{layout_order, dropping_wrong, size_wrong, stamp_wrong}
 use Rattle.plain_order.proofs.layout_order.Goals as goal
 

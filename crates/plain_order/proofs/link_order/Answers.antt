@@ -1,7 +1,6 @@
 -- `link_order` meets its contract: each question was answered no until the one that is answered yes.
 use mathlib.Core.Path.{◌≡◌, refl, sym, ◌∙◌}
 use mathlib.Core.Bool.{false}
-use borrow.Author.Rules.{rules}
 use Rattle.plain_order.specs.Order.{length_wrong, address_wrong, control_wrong, command_or_poll, check_wrong, protocol_wrong, link_order}
 use Rattle.plain_order.proofs.OrderLaws.{length_right}
 use Rattle.plain_order.proofs.link_order.Goals as goal

@@ -1,5 +1,4 @@
 -- `protocol_wrong` meets its contract.
-use borrow.Author.Rules.{rules}
 use Rattle.plain_order.specs.Order.{protocol_wrong}
 use Rattle.plain_order.proofs.protocol_wrong.Goals as goal
 

@@ -1,5 +1,4 @@
 -- `size_wrong` meets its contract.
-use borrow.Author.Rules.{rules}
 use Rattle.plain_order.specs.Order.{size_wrong}
 use Rattle.plain_order.proofs.size_wrong.Goals as goal
 

@@ -1,5 +1,4 @@
 -- `stamp_wrong` meets its contract.
-use borrow.Author.Rules.{rules}
 use Rattle.plain_order.specs.Order.{stamp_wrong}
 use Rattle.plain_order.proofs.stamp_wrong.Goals as goal
 

@@ -1,6 +1,5 @@
 -- `taken_order` meets its contract.
 use mathlib.Core.Path.{refl, sym, ◌∙◌}
-use borrow.Author.Rules.{rules}
 use Rattle.refusals.proofs.RefusalLaws.{or_else_take, or_else_pass}
 use Rattle.plain_order.specs.Order.{taken_order}
 use Rattle.plain_order.proofs.taken_order.Goals as goal
