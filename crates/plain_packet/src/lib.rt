@@ -1,4 +1,6 @@
 // The packet that the origin is given: what is wrong with it, and the frame that is made of it and sent on.
+#![tactic(auto)]
+
 ghost use Rattle.std.specs.Prelude.{◌≡◌, [], ◌∷◌, ◌++◌, ◌+◌, ◌*◌, ◌^◌, ◌<◌, ◌≤◌, min, length, drop};
 ghost use Rattle.coding.specs.Coding.{droppable_bits, frame_length};
 ghost use Rattle.plain_blocks.specs.Figure7.{picked_blocks};
