@@ -1,4 +1,6 @@
 // The calls of a circuit's watch for a host in C or Rust, on numbers and on slices that are lent.
+#![tactic(auto)]
+
 ghost use Rattle.std.specs.Prelude.{◌≡◌, length};
 ghost use Rattle.refusals.specs.Refusals.{◌or_else◌};
 ghost use Rattle.watch.specs.Watch.{start_answer};
