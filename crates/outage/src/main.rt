@@ -1,6 +1,9 @@
 // A trunk that dies and comes back, played second by second at both of its ends with the default times (10 s, 25 s). Each frame
 // is written, carried while the trunk is alive, and read. A line for each event that sends or changes something: the clock, the
 // end, its two states, the frame with its bits and N/A, and conditioning.
+#![tactic(auto)]
+
+use std::io;
 use trunk::event_of;
 use watch::{Conditioning, Event, Originating, Sends, Terminating, Watch, Watched};
 
@@ -10,45 +13,35 @@ struct Line {
     east: Watch,
 }
 
-fn say(text: &[u8]) {
-    io::write_all(1, text);
-}
-
-fn say_number(n: u64) {
-    say(b" ");
-    io::print_decimal(1, n);
-}
-
-fn say_originating(o: Originating) {
+fn say_originating(rt: &HostRuntime, o: Originating) -> io::Result<()> {
     match o {
-        Originating::Norm => say(b" NORM"),
-        Originating::Alarm => say(b" ALARM"),
+        Originating::Norm => print!(rt; " NORM"),
+        Originating::Alarm => print!(rt; " ALARM"),
     }
 }
 
-fn say_terminating(t: Terminating) {
+fn say_terminating(rt: &HostRuntime, t: Terminating) -> io::Result<()> {
     match t {
-        Terminating::Norm => say(b" NORM"),
-        Terminating::LAlarm => say(b" L_ALARM"),
-        Terminating::RAlarm => say(b" R_ALARM"),
+        Terminating::Norm => print!(rt; " NORM"),
+        Terminating::LAlarm => print!(rt; " L_ALARM"),
+        Terminating::RAlarm => print!(rt; " R_ALARM"),
     }
 }
 
-fn say_sends(sends: Sends, bits: u8, na: u8) {
+fn say_sends(rt: &HostRuntime, sends: Sends, bits: u8, na: u8) -> io::Result<()> {
     match sends {
-        Sends::Nothing => return,
-        Sends::Transition => say(b" transition"),
-        Sends::Refresh => say(b" refresh"),
+        Sends::Nothing => return Ok(()),
+        Sends::Transition => print!(rt; " transition")?,
+        Sends::Refresh => print!(rt; " refresh")?,
     }
-    say_number(bits as u64);
-    say_number(na as u64);
+    print!(rt; " {bits} {na}")
 }
 
-fn say_conditioning(c: Conditioning) {
+fn say_conditioning(rt: &HostRuntime, c: Conditioning) -> io::Result<()> {
     match c {
-        Conditioning::Unchanged => say(b"\n"),
-        Conditioning::Begins => say(b" conditioning begins\n"),
-        Conditioning::Ends => say(b" conditioning ends\n"),
+        Conditioning::Unchanged => println!(rt; ""),
+        Conditioning::Begins => println!(rt; " conditioning begins"),
+        Conditioning::Ends => println!(rt; " conditioning ends"),
     }
 }
 
@@ -86,20 +79,20 @@ fn worth_a_line(before: Watch, told: Watched) -> bool {
     is_sent(sends) | (in_alarm(was) != in_alarm(is)) | (rank(stood) != rank(stands))
 }
 
-fn show(clock: u64, end: &[u8], before: Watch, told: Watched) {
+fn show(rt: &HostRuntime, clock: u64, end: &str, before: Watch, told: Watched) -> io::Result<()> {
     if worth_a_line(before, told) {
         let after = told.after;
         let originating = after.originating;
         let terminating = after.terminating;
         let sends = told.sends;
         let conditioning = told.conditioning;
-        io::print_decimal(1, clock);
-        say(end);
-        say_originating(originating);
-        say_terminating(terminating);
-        say_sends(sends, told.bits, told.na);
-        say_conditioning(conditioning);
+        print!(rt; "{clock} {end}")?;
+        say_originating(rt, originating)?;
+        say_terminating(rt, terminating)?;
+        say_sends(rt, sends, told.bits, told.na)?;
+        say_conditioning(rt, conditioning)?;
     }
+    Ok(())
 }
 
 // The trunk is dead from 32 s on, until 71 s.
@@ -138,25 +131,25 @@ fn read_at_west(clock: u64) -> Event {
     }
 }
 
-fn second(line: Line, clock: u64) -> Line {
+fn second(rt: &HostRuntime, line: Line, clock: u64) -> io::Result<Line> {
     let west = line.west;
     let east = line.east;
     let read = watch::tell(west, clock, read_at_west(clock));
-    show(clock, b" west", west, read);
+    show(rt, clock, "west", west, read)?;
     let heard = watch::tell(east, clock, carried(clock, read));
-    show(clock, b" east", east, heard);
+    show(rt, clock, "east", east, heard)?;
     let next = read.after;
     let answered = watch::tell(next, clock, carried(clock, heard));
-    show(clock, b" west", next, answered);
+    show(rt, clock, "west", next, answered)?;
     let after = answered.after;
     let far = heard.after;
-    Line {
+    Ok(Line {
         west: after,
         east: far,
-    }
+    })
 }
 
-fn main() {
+fn main(rt: HostRuntime) -> io::Result<()> {
     let west = watch::start(4, 10000, 25000, 0);
     let east = watch::start(4, 10000, 25000, 0);
     let first = west.after;
@@ -168,6 +161,7 @@ fn main() {
     let mut clock: u64 = 0;
     while clock < 130000 {
         clock += 1000;
-        line = second(line, clock);
+        line = second(&rt, line, clock)?;
     }
+    Ok(())
 }

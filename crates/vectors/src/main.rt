@@ -14,14 +14,15 @@
 //     22ed  1  1176
 //
 // The complement of 1176 is ee89, sent as 89 ee.
+#![tactic(auto)]
 
-fn hex(s: &[u8]) {
-    let mut i = 0;
-    while i < s.len() {
-        io::print_hex(1, octets::wide(s[i]) as u64, 2);
-        io::write_all(1, b" ");
-        i += 1;
+use std::io;
+
+fn hex(rt: &HostRuntime, s: &[u8]) -> io::Result<()> {
+    for octet in s {
+        print!(rt; "{octet:02x} ")?;
     }
+    Ok(())
 }
 
 // The check of all but the last two octets.
@@ -30,28 +31,28 @@ fn check(frame: &[u8]) -> u16 {
     fcs::fcs(&frame[..n])
 }
 
-fn line(frame: &[u8]) {
+fn line(rt: &HostRuntime, frame: &[u8]) -> io::Result<()> {
     let sent = check(frame);
-    hex(frame);
-    io::write_all(1, b"-> ");
-    hex(&[(sent % 256) as u8, (sent / 256) as u8]);
+    hex(rt, frame)?;
+    print!(rt; "-> ")?;
+    hex(rt, &[(sent % 256) as u8, (sent / 256) as u8])?;
     if fcs::good(frame, octets::less(frame.len(), 2)) {
-        io::write_all(1, b"good\n");
+        println!(rt; "good")
     } else {
-        io::write_all(1, b"not good\n");
+        println!(rt; "not good")
     }
 }
 
-fn main() {
+fn main(rt: HostRuntime) -> io::Result<()> {
     // ASCII 123456789, whose check is 906e
-    line(b"123456789\x6e\x90");
+    line(&rt, b"123456789\x6e\x90")?;
     // SABM and UA, of X.25's appendix
-    line(b"\x03\x3f\x5b\xec");
-    line(b"\x01\x73\x83\x57");
+    line(&rt, b"\x03\x3f\x5b\xec")?;
+    line(&rt, b"\x01\x73\x83\x57")?;
     // the same with one bit wrong, in the check and in an octet
-    line(b"\x03\x3f\x5b\xed");
-    line(b"\x01\x72\x83\x57");
+    line(&rt, b"\x03\x3f\x5b\xed")?;
+    line(&rt, b"\x01\x72\x83\x57")?;
     // no octets, and the octet by hand
-    line(b"\x00\x00");
-    line(b"\xfe\x89\xee");
+    line(&rt, b"\x00\x00")?;
+    line(&rt, b"\xfe\x89\xee")
 }

@@ -1,25 +1,21 @@
 // Runs each file that an argument names as `walk` runs its input, under a line with the file's name.
-use libc::STDOUT_FILENO;
+#![tactic(auto)]
 
-fn run_file(i: usize) {
-    let mut path = io::buffer();
-    let n = os::arg(i, &mut path);
-    io::write_all(STDOUT_FILENO, &path[..n]);
-    io::write_all(STDOUT_FILENO, &[b'\n']);
-    let input = os::open_read(&path[..n]);
-    if input < 0 {
-        os::fail(&path[..n]);
-        return;
+use std::fs::File;
+use std::{env, io};
+
+fn run_file(rt: &HostRuntime, path: &str) -> io::Result<()> {
+    println!(rt; "{path}")?;
+    match File::open(rt, path) {
+        Ok(mut input) => walking::run(&mut input, &mut rt.stdout()),
+        Err(error) => eprintln!(rt; "{path}: {error}")?,
     }
-    walking::run(input);
-    libc::close(input);
+    Ok(())
 }
 
-fn main() {
-    let count = os::arg_count();
-    let mut i: usize = 1;
-    while i < count {
-        run_file(i);
-        i += 1;
+fn main(rt: HostRuntime) -> io::Result<()> {
+    for path in env::args(&rt)?.skip(1) {
+        run_file(&rt, path.as_str())?;
     }
+    Ok(())
 }
