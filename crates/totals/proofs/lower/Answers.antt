@@ -1,4 +1,4 @@
-use Rattle.std.proofs.Common.{◌-◌, rules}
+use Rattle.std.proofs.Common.{◌-◌}
 use Rattle.totals.specs.Totals.{lowered}
 use Rattle.totals.proofs.TotalsLaws.{moved}
 use Rattle.totals.proofs.lower.Goals as goal

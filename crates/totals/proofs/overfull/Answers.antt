@@ -1,4 +1,3 @@
-use Rattle.std.proofs.Common.{rules}
 use Rattle.totals.proofs.TotalsLaws.{any_of_three}
 use Rattle.totals.proofs.overfull.Goals as goal
 

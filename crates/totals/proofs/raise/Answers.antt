@@ -1,4 +1,4 @@
-use Rattle.std.proofs.Common.{◌+◌, refl, arith, rules}
+use Rattle.std.proofs.Common.{◌+◌, refl, arith}
 use Rattle.totals.specs.Totals.{raised}
 use Rattle.totals.proofs.TotalsLaws.{none_above, moved}
 use Rattle.totals.proofs.raise.Goals as goal
