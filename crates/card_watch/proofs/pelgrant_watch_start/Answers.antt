@@ -8,7 +8,6 @@ use Rattle.watch.specs.declared.Watched.{Watched}
 use Rattle.card.proofs.CardLaws.{sized, left_alone, answered_by}
 use Rattle.card_watch.specs.Watching.{watch_numbers, nine_refusal}
 use Rattle.card_watch.proofs.WatchingLaws.{numbers_nine}
-use borrow.Author.Rules.{rules}
 use Rattle.card_watch.proofs.pelgrant_watch_start.Goals as goal
 
 pub returns-then-size-ne0 : goal.returns-then-size-ne0

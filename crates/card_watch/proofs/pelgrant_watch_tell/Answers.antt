@@ -1,7 +1,6 @@
-use mathlib.Core.Path.{refl, sym, ◌∙◌}
+use mathlib.Core.Path.{sym, ◌∙◌}
 use native.Mathlib.Omega.{arith}
 use lib.ListN.{length}
-use borrow.Author.Rules.{rules}
 use Rattle.card.proofs.CardLaws.{roomy, left_alone, answered_by, not_called, called}
 use Rattle.card_watch.proofs.WatchingLaws.{done_fits}
 use Rattle.card_watch.proofs.pelgrant_watch_tell.Goals as goal

@@ -1,5 +1,4 @@
 use mathlib.Core.Path.{refl}
-use native.Mathlib.Omega.{arith}
 use Rattle.card_watch.proofs.tell_numbers.Goals as goal
 
 pub returns : goal.returns
@@ -7,5 +6,4 @@ returns c = record {
   number = refl;
   answered = rw (c.sends_number.ensures, c.conditioning_number.ensures);
   moved = c.watch_numbers-after.ensures;
-
 }

@@ -1,4 +1,3 @@
-use native.Mathlib.Omega.{arith}
 use Rattle.card_watch.specs.Watching.{watch_numbers}
 use Rattle.card_watch.proofs.watch_numbers.Goals as goal
 
