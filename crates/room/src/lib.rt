@@ -1,4 +1,6 @@
 // The waiting room by the numbers of its record: what is refused, what comes and goes, and what a level would give back.
+#![tactic(auto)]
+
 ghost use Rattle.std.specs.Prelude.{◌≡◌, ◌||◌, [], ◌<◌, ◌≤◌, length};
 ghost use Rattle.onward.specs.Onward.{wait_of};
 ghost use Rattle.node.specs.Node.{forward_answer, forward_buffer};
