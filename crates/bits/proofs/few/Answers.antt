@@ -1,9 +1,7 @@
 -- `bits::few` meets its contract: the octets come from the last to the first, each below those before.
-use Prim.Native.Nat.{◌≤◌}
 use mathlib.Core.Path.{◌≡◌, ◌∙◌}
 use native.Mathlib.Nat.{le_refl}
 use native.Mathlib.Omega.{arith}
-use lib.ListN.{length, drop}
 use lib.Seq.{drop-length}
 use Rattle.bits.specs.Bits.{bits, value}
 use Rattle.bits.proofs.BitLaws.{made_more, few_lt}

@@ -1,12 +1,8 @@
 -- `bits::few` meets its contract: the octets come from the last to the first, each below those before.
 use Prim.Native.Nat.{◌≤◌}
-use mathlib.Core.Path.{◌≡◌, ◌∙◌}
-use native.Mathlib.Nat.{le_refl}
-use native.Mathlib.Omega.{arith}
+use mathlib.Core.Path.{◌≡◌}
 use lib.ListN.{length, drop}
-use lib.Seq.{drop-length}
 use Rattle.bits.specs.Bits.{bits, value}
-use Rattle.bits.proofs.BitLaws.{made_more, few_lt}
 use Rattle.bits.proofs.few.Given as goal
 
 abbrev pub invariant-loop-k : goal.invariant-loop-k

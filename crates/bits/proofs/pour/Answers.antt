@@ -1,12 +1,11 @@
 -- `bits::pour` meets its contract: j octets are stored, and the others are left in the number.
-use Prim.Native.Nat.{◌/◌, ◌^◌, ◌≤◌, ◌-◌}
 use mathlib.Core.Path.{◌≡◌, sym, ap, ◌∙◌}
 use native.Mathlib.Nat.{div-one}
 use native.Mathlib.Omega.{arith}
 use lib.ListN.{length}
 use lib.Seq.{paste-zero}
 use Rattle.bits.specs.Bits.{lowest, octets_of}
-use Rattle.bits.proofs.BitLaws.{stored, stored_length, stored_more, stored_all, rest_more}
+use Rattle.bits.proofs.BitLaws.{stored_length, stored_more, stored_all, rest_more}
 use Rattle.bits.proofs.pour.Goals as goal
 
 pub loop-j-init : goal.loop-j-init

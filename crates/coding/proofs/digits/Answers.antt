@@ -1,6 +1,6 @@
 -- `coding::digits` meets its contract: a turn adds the next digit.
 use mathlib.Core.Path.{◌≡◌, refl, ◌∙◌}
-use Prim.Native.Nat.{◌+◌, ◌*◌, ◌%◌, ◌^◌, ◌-◌, ◌≤◌}
+use Prim.Native.Nat.{◌+◌, ◌*◌, ◌%◌, ◌^◌}
 use native.Mathlib.Omega.{arith}
 use Rattle.coding.specs.Digits.{digits_of}
 use Rattle.coding.proofs.CodingLaws.{digits_more, digits_fit}

@@ -1,9 +1,7 @@
 -- `coding::digits` meets its contract: a turn adds the next digit.
-use mathlib.Core.Path.{◌≡◌, refl, ◌∙◌}
-use Prim.Native.Nat.{◌+◌, ◌*◌, ◌%◌, ◌^◌, ◌-◌, ◌≤◌}
-use native.Mathlib.Omega.{arith}
+use mathlib.Core.Path.{◌≡◌}
+use Prim.Native.Nat.{◌-◌, ◌≤◌}
 use Rattle.coding.specs.Digits.{digits_of}
-use Rattle.coding.proofs.CodingLaws.{digits_more, digits_fit}
 use Rattle.coding.proofs.digits.Given as goal
 
 abbrev pub invariant-loop-i : goal.invariant-loop-i

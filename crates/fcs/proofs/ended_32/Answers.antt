@@ -1,7 +1,6 @@
 -- `fcs::ended_32` meets its contract: sixteen bits twice.
 use mathlib.Core.Path.{ap}
 use Prim.Native.Nat.{ℕ}
-use native.Mathlib.Omega.{arith}
 use Rattle.fcs.specs.Fcs.{fcs_bits}
 use Rattle.fcs.proofs.FoldLaws.{twice}
 use Rattle.fcs.proofs.ended_32.Goals as goal

@@ -1,5 +1,4 @@
 -- `fcs::ended_64` meets its contract: the low half folded, and 32 bits.
-use native.Mathlib.Omega.{arith}
 use Rattle.fcs.proofs.FoldLaws.{twice}
 use Rattle.fcs.proofs.ended_64.Goals as goal
 

@@ -1,10 +1,8 @@
 -- `fcs::fcs` meets its contract: the octets that are left make of the register, once 64 zero bits are fed to it, what all of them make of the preset.
-use Prim.Native.Nat.{ℕ, ◌≤◌, ◌-◌}
-use mathlib.Core.Path.{◌≡◌, ap, ◌∙◌}
-use native.Mathlib.Omega.{arith}
+use Prim.Native.Nat.{◌≤◌, ◌-◌}
+use mathlib.Core.Path.{◌≡◌}
 use lib.ListN.{length, drop}
-use Rattle.fcs.specs.Fcs.{fcs_bits, fcs_run, fcs_of}
-use Rattle.fcs.proofs.FoldLaws.{first_eight, next_eight, run_eight}
+use Rattle.fcs.specs.Fcs.{fcs_bits, fcs_run}
 use Rattle.fcs.proofs.fcs.Given as goal
 
 abbrev pub invariant-loop-i : goal.invariant-loop-i

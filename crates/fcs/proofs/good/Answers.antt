@@ -1,5 +1,4 @@
 -- `fcs::good` meets its contract.
-use native.Mathlib.Omega.{arith}
 use Rattle.fcs.proofs.SealLaws.{tested}
 use Rattle.fcs.proofs.good.Goals as goal
 

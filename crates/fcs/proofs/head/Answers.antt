@@ -3,7 +3,6 @@ use mathlib.Core.Path.{ap, ◌∙◌}
 use native.Mathlib.Omega.{arith}
 use lib.Seq.{take_all}
 use Rattle.fcs.specs.Fcs.{fcs_of}
-use borrow.Author.Rules.{rules}
 use Rattle.fcs.proofs.head.Goals as goal
 
 pub returns : goal.returns

@@ -1,10 +1,8 @@
 -- `fcs::rest` meets its contract: the octets that are left make of the register what all of them make of the first.
 use Prim.Native.Nat.{◌≤◌, ◌-◌}
-use mathlib.Core.Path.{◌≡◌, refl, sym, ◌∙◌}
-use native.Mathlib.Omega.{arith}
+use mathlib.Core.Path.{◌≡◌}
 use lib.ListN.{length, drop}
 use Rattle.fcs.specs.Fcs.{fcs_run}
-use Rattle.fcs.proofs.RunLaws.{run_next, run_end}
 use Rattle.fcs.proofs.rest.Given as goal
 
 abbrev pub invariant-loop-i : goal.invariant-loop-i

@@ -1,6 +1,4 @@
 -- `fcs::seal` meets its contract.
-use native.Mathlib.Omega.{arith}
-use borrow.Author.Rules.{rules}
 use Rattle.fcs.proofs.SealLaws.{sealed}
 use Rattle.fcs.proofs.seal.Goals as goal
 

@@ -6,7 +6,6 @@ use Rattle.refusals.proofs.RefusalLaws.{refused_is, done_is}
 use Rattle.frame.specs.Fields.{address, is_voice}
 use Rattle.frame.specs.Orders.{link_refusal}
 use Rattle.frame.specs.Calls.{link_answer}
-use borrow.Author.Rules.{rules}
 use Rattle.frame.proofs.link.Goals as goal
 
 -- the answer where a number applies, and where none does

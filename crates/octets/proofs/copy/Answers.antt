@@ -1,10 +1,9 @@
 -- `octets::copy` meets its contract: before each turn the first i octets of out are those of src.
-use Prim.Native.Nat.{◌+◌, ◌≤◌, ◌-◌}
+use Prim.Native.Nat.{◌+◌, ◌-◌}
 use mathlib.Core.Path.{◌≡◌, refl, ap, ◌∙◌}
 use mathlib.Core.List.{◌++◌}
 use native.Mathlib.Omega.{arith}
-use borrow.Author.Rules.{rules}
-use lib.ListN.{length, take, drop, length-append, length-take, length-drop}
+use lib.ListN.{length, drop, length-append, length-take, length-drop}
 use borrow.Rule.Slice.PartMut.{put_mid}
 use Rattle.octets.proofs.PartLaws.{copied_length, block_is, block_length, tail_length, moved_sixteen, moved_rest}
 use Rattle.octets.proofs.copy.Goals as goal

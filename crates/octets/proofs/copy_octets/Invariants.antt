@@ -1,10 +1,7 @@
 use Prim.Native.Nat.{◌≤◌, ◌-◌}
-use mathlib.Core.Path.{◌≡◌, refl, ap, ◌∙◌}
+use mathlib.Core.Path.{◌≡◌}
 use mathlib.Core.List.{◌++◌}
-use native.Mathlib.Omega.{arith}
 use lib.ListN.{length, take, drop}
-use lib.Seq.{take_all}
-use Rattle.octets.proofs.PartLaws.{copied_length, copied_more}
 use Rattle.octets.proofs.copy_octets.Given as goal
 
 abbrev pub invariant-loop-i : goal.invariant-loop-i

@@ -1,5 +1,5 @@
 -- `onward::head` meets its contract.
-use Rattle.std.proofs.Common.{◌≡◌, ℕ, ◌+◌, ◌-◌, ◌*◌, ◌/◌, ◌%◌, List, [], ◌∷◌, ◌∙◌, ap₂, arith}
+use Rattle.std.proofs.Common.{◌≡◌, ℕ, ◌+◌, ◌-◌, ◌*◌, ◌/◌, ◌%◌, List, [], ◌∷◌, ◌∙◌, ap₂}
 use Rattle.octets.specs.Octets.{octet}
 use Rattle.frame.specs.Fields.{stamp}
 use Rattle.onward.specs.Onward.{dropped, stamp_after, onward_head}

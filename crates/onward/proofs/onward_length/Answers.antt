@@ -1,4 +1,3 @@
-use Rattle.std.proofs.Common.{arith}
 use Rattle.onward.proofs.OnwardLaws.{onward_length}
 use Rattle.onward.proofs.onward_length.Goals as goal
 

@@ -1,4 +1,4 @@
-use Rattle.std.proofs.Common.{◌≡◌, ℕ, ◌+◌, min, ap, ◌∙◌, arith}
+use Rattle.std.proofs.Common.{◌≡◌, ℕ, ◌+◌, min, ap, ◌∙◌}
 use Rattle.onward.specs.Onward.{stamp_after}
 use Rattle.onward.proofs.stamp_after.Goals as goal
 

@@ -2,7 +2,6 @@ use Prim.Native.Nat.{ℕ, ◌+◌, ◌*◌, ◌-◌}
 use mathlib.Core.Path.{◌≡◌, ap, ap₂, ◌∙◌}
 use mathlib.Core.Bool.{cond}
 use lib.Dec.{eqb}
-use native.Mathlib.Omega.{arith}
 use Rattle.coding.specs.Coding.{sample_bits, frame_length}
 use Rattle.coding.proofs.Coding.frame_length.Goals as goal
 
