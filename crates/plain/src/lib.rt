@@ -1,4 +1,6 @@
 // The plain engine: an origin, a node and a voice reader that do what the quick ones do, written to be read.
+#![tactic(auto)]
+
 ghost use Rattle.std.specs.Prelude.{◌≡◌, length, replicate};
 ghost use Rattle.plain_passes.specs.Passes.{wait_between};
 ghost use Rattle.plain.specs.Forward.{forward_order, plain_forward_answer, plain_forward_buffer};
