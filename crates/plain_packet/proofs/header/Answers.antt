@@ -1,6 +1,5 @@
 -- `header` meets its contract.
 use native.Mathlib.Omega.{arith}
-use borrow.Author.Rules.{rules}
 use Rattle.coding.proofs.CodingLaws.{d_le_3}
 use Rattle.plain_packet.proofs.PacketLaws.{header_with}
 use Rattle.plain_packet.proofs.header.Goals as goal

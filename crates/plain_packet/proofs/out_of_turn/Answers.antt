@@ -2,7 +2,6 @@
 use Prim.Native.Nat.{ℕ}
 use mathlib.Core.Path.{◌≡◌, refl, sym, ap, ◌∙◌}
 use mathlib.Core.Bool.{Bool}
-use borrow.Author.Rules.{rules}
 use Rattle.plain_packet.specs.Packet.{out_of_turn}
 use Rattle.origin.specs.declared.Step.{Step}
 use Rattle.origin.specs.declared.Step.TheVariants.{Start, Data, Stop}

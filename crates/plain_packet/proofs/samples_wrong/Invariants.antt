@@ -1,16 +1,9 @@
 -- `samples_wrong` meets its contract: what was found so far, or is found in the rest.
-use Prim.Native.Nat.{ℕ, ◌+◌, ◌-◌, ◌^◌, ◌≤◌}
-use mathlib.Core.Path.{◌≡◌, refl, sym, ◌∙◌, ap₂}
+use Prim.Native.Nat.{◌-◌, ◌^◌, ◌≤◌}
+use mathlib.Core.Path.{◌≡◌}
 use mathlib.Core.Bool.{◌||◌}
-use native.Mathlib.Omega.{arith}
-use native.Mathlib.Nat.{one-mul}
-use borrow.Author.Rules.{rules}
-use borrow.Author.Tests.{eq-eqb, ne_eqb}
-use lib.Dec.{leb, lit<}
-use lib.ListN.{length, drop}
-use lib.Pow.{shl_exact}
-use Rattle.plain_packet.specs.Packet.{too_large, samples_wrong}
-use Rattle.plain_packet.proofs.PacketLaws.{large_more, large_end}
+use lib.ListN.{drop}
+use Rattle.plain_packet.specs.Packet.{too_large}
 use Rattle.plain_packet.proofs.samples_wrong.Given as goal
 
 abbrev pub invariant-loop-i : goal.invariant-loop-i

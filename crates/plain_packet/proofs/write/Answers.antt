@@ -3,7 +3,6 @@ use Prim.Native.Nat.{◌+◌, ◌*◌, ℕ}
 use mathlib.Core.Path.{sym, ◌≡◌, ap, ◌∙◌}
 use mathlib.Core.List.{List, [], ◌∷◌, ◌++◌}
 use native.Mathlib.Omega.{arith}
-use borrow.Author.Rules.{rules}
 use lib.Seq.{length-take-le}
 use lib.ListN.{length, take, drop}
 use Rattle.plain_passes.specs.Passes.{passed}
