@@ -21,8 +21,8 @@ returns-then-bad-ne0 c =
     let n = length a.store.now in
     let b = c.taken_refusal-bad in
     let made =
-      spot_refused a.store.now q a.frame.now b.result
-      (at_checks n q a.frame.now j.result j.ensures b.result c.if-held-ne0.false b.ensures c.if-bad-ne0.true) c.if-bad-ne0.true in
+    spot_refused a.store.now q a.frame.now b.result
+    (at_checks n q a.frame.now j.result j.ensures b.result c.if-held-ne0.false b.ensures c.if-bad-ne0.true) c.if-bad-ne0.true in
     record { spot = made.0; store = made.1 }
 
 pub returns-then-full-ne0 : goal.returns-then-full-ne0
@@ -34,7 +34,7 @@ returns-then-full-ne0 c =
     let b = c.taken_refusal-bad in
     let f = c.refuse-full in
     let number : f.result ≡ entry_by n q a.frame.now =
-      at_room n q a.frame.now j.result j.ensures b.result f.result c.if-held-ne0.false b.ensures c.if-bad-ne0.false f.ensures in
+    at_room n q a.frame.now j.result j.ensures b.result f.result c.if-held-ne0.false b.ensures c.if-bad-ne0.false f.ensures in
     let made = spot_refused a.store.now q a.frame.now f.result number c.if-full-ne0.true in
     record { spot = made.0; store = made.1 }
 
@@ -47,7 +47,7 @@ overflow_cast-n c =
     let b = c.taken_refusal-bad in
     let f = c.refuse-full in
     let number : f.result ≡ entry_by n q a.frame.now =
-      at_room n q a.frame.now j.result j.ensures b.result f.result c.if-held-ne0.false b.ensures c.if-bad-ne0.false f.ensures in
+    at_room n q a.frame.now j.result j.ensures b.result f.result c.if-held-ne0.false b.ensures c.if-bad-ne0.false f.ensures in
     let y : Ready n q a.frame.now j.result.used = ready n q a.frame.now f.result j.result.used number c.if-full-ne0.false (j.ensures.used c.if-held-ne0.false) in
     omega (arith, y.store)
 
@@ -60,7 +60,7 @@ place_after-at-requires c =
     let b = c.taken_refusal-bad in
     let f = c.refuse-full in
     let number : f.result ≡ entry_by n q a.frame.now =
-      at_room n q a.frame.now j.result j.ensures b.result f.result c.if-held-ne0.false b.ensures c.if-bad-ne0.false f.ensures in
+    at_room n q a.frame.now j.result j.ensures b.result f.result c.if-held-ne0.false b.ensures c.if-bad-ne0.false f.ensures in
     let y : Ready n q a.frame.now j.result.used = ready n q a.frame.now f.result j.result.used number c.if-full-ne0.false (j.ensures.used c.if-held-ne0.false) in
     omega (arith, y.store, y.place, y.used)
 
@@ -73,7 +73,7 @@ lay-requires c =
     let b = c.taken_refusal-bad in
     let f = c.refuse-full in
     let number : f.result ≡ entry_by n q a.frame.now =
-      at_room n q a.frame.now j.result j.ensures b.result f.result c.if-held-ne0.false b.ensures c.if-bad-ne0.false f.ensures in
+    at_room n q a.frame.now j.result j.ensures b.result f.result c.if-held-ne0.false b.ensures c.if-bad-ne0.false f.ensures in
     let y : Ready n q a.frame.now j.result.used = ready n q a.frame.now f.result j.result.used number c.if-full-ne0.false (j.ensures.used c.if-held-ne0.false) in
     (rw c.place_after-at.ensures y.behind, y.fits)
 
@@ -86,7 +86,7 @@ place_after-slot-requires c =
     let b = c.taken_refusal-bad in
     let f = c.refuse-full in
     let number : f.result ≡ entry_by n q a.frame.now =
-      at_room n q a.frame.now j.result j.ensures b.result f.result c.if-held-ne0.false b.ensures c.if-bad-ne0.false f.ensures in
+    at_room n q a.frame.now j.result j.ensures b.result f.result c.if-held-ne0.false b.ensures c.if-bad-ne0.false f.ensures in
     let y : Ready n q a.frame.now j.result.used = ready n q a.frame.now f.result j.result.used number c.if-full-ne0.false (j.ensures.used c.if-held-ne0.false) in
     omega (arith, y.few, y.slot)
 
@@ -99,9 +99,9 @@ returns c =
     let b = c.taken_refusal-bad in
     let f = c.refuse-full in
     let number : f.result ≡ entry_by n q a.frame.now =
-      at_room n q a.frame.now j.result j.ensures b.result f.result c.if-held-ne0.false b.ensures c.if-bad-ne0.false f.ensures in
+    at_room n q a.frame.now j.result j.ensures b.result f.result c.if-held-ne0.false b.ensures c.if-bad-ne0.false f.ensures in
     let made =
-      spot_done a.store.now q a.frame.now f.result number c.place_after-slot.result c.droppable-blocks.result j.result.used _ c.if-full-ne0.false c.place_after-slot.ensures
-      c.droppable-blocks.ensures.0 (j.ensures.used c.if-held-ne0.false)
-      (c.lay.ensures ∙ ap (λ (k : ℕ). laid k a.frame.now a.store.now) c.place_after-at.ensures) in
+    spot_done a.store.now q a.frame.now f.result number c.place_after-slot.result c.droppable-blocks.result j.result.used _ c.if-full-ne0.false c.place_after-slot.ensures
+    c.droppable-blocks.ensures.0 (j.ensures.used c.if-held-ne0.false)
+    (c.lay.ensures ∙ ap (λ (k : ℕ). laid k a.frame.now a.store.now) c.place_after-at.ensures) in
     record { spot = made.0; store = made.1 }

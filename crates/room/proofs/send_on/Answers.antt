@@ -1,6 +1,5 @@
 use Rattle.onward.specs.Onward.{wait_of}
 use Rattle.room.proofs.TakeLaws.{straight, put_together, went_alike}
-use borrow.Author.Rules.{rules}
 use Rattle.room.proofs.send_on.Goals as goal
 
 pub returns-then-n-store : goal.returns-then-n-store

@@ -17,7 +17,7 @@ returns-then-refusal-ne0 c =
     let j = c.judge-held in
     let o = c.or_else-refusal in
     let number : o.result ≡ none_by n q =
-      none_by_lem n a.head a.first a.count a.lengths.now a.clocks.now a.totals.now o.result j.result.refusal c.refuse.result j.ensures.number c.refuse.ensures o.ensures in
+    none_by_lem n a.head a.first a.count a.lengths.now a.clocks.now a.totals.now o.result j.result.refusal c.refuse.result j.ensures.number c.refuse.ensures o.ensures in
     let made = step_none a.store.now q p.0.all p.1 a.to a.level a.address a.out.now o.result number c.if-refusal-ne0.true c.stays.result c.stays.ensures in
     record { step = made.0; buffer = made.1 }
 
@@ -30,7 +30,7 @@ bounds-lengths-slot c =
     let j = c.judge-held in
     let o = c.or_else-refusal in
     let number : o.result ≡ none_by n q =
-      none_by_lem n a.head a.first a.count a.lengths.now a.clocks.now a.totals.now o.result j.result.refusal c.refuse.result j.ensures.number c.refuse.ensures o.ensures in
+    none_by_lem n a.head a.first a.count a.lengths.now a.clocks.now a.totals.now o.result j.result.refusal c.refuse.result j.ensures.number c.refuse.ensures o.ensures in
     let none : none_by n q ≡ 0 = sym number ∙ c.if-refusal-ne0.false in
     let w : Inside n q × (0 < a.count) = some_wait n q none in
     omega (arith, w.0.slot, p.0.all)
@@ -48,7 +48,7 @@ bounds-clocks-slot c =
     let j = c.judge-held in
     let o = c.or_else-refusal in
     let number : o.result ≡ none_by n q =
-      none_by_lem n a.head a.first a.count a.lengths.now a.clocks.now a.totals.now o.result j.result.refusal c.refuse.result j.ensures.number c.refuse.ensures o.ensures in
+    none_by_lem n a.head a.first a.count a.lengths.now a.clocks.now a.totals.now o.result j.result.refusal c.refuse.result j.ensures.number c.refuse.ensures o.ensures in
     let none : none_by n q ≡ 0 = sym number ∙ c.if-refusal-ne0.false in
     let w : Inside n q × (0 < a.count) = some_wait n q none in
     omega (arith, w.0.slot, p.1)
@@ -62,7 +62,7 @@ send_on-gone-requires c =
     let j = c.judge-held in
     let o = c.or_else-refusal in
     let number : o.result ≡ none_by n q =
-      none_by_lem n a.head a.first a.count a.lengths.now a.clocks.now a.totals.now o.result j.result.refusal c.refuse.result j.ensures.number c.refuse.ensures o.ensures in
+    none_by_lem n a.head a.first a.count a.lengths.now a.clocks.now a.totals.now o.result j.result.refusal c.refuse.result j.ensures.number c.refuse.ensures o.ensures in
     let none : none_by n q ≡ 0 = sym number ∙ c.if-refusal-ne0.false in
     let w : Inside n q × (0 < a.count) = some_wait n q none in
     (w.0.place, first_fits a.store.now q p.0.all p.1 w.0 w.1, p.0.octets a.first)
@@ -76,11 +76,11 @@ returns-then-gone-ne0 c =
     let j = c.judge-held in
     let o = c.or_else-refusal in
     let number : o.result ≡ none_by n q =
-      none_by_lem n a.head a.first a.count a.lengths.now a.clocks.now a.totals.now o.result j.result.refusal c.refuse.result j.ensures.number c.refuse.ensures o.ensures in
+    none_by_lem n a.head a.first a.count a.lengths.now a.clocks.now a.totals.now o.result j.result.refusal c.refuse.result j.ensures.number c.refuse.ensures o.ensures in
     let none : none_by n q ≡ 0 = sym number ∙ c.if-refusal-ne0.false in
     let v = c.send_on-gone in
     let made =
-      step_refused a.store.now q p.0.all p.1 a.to a.level a.address a.out.now v.result _ none (v.ensures.gone, v.ensures.buffer) c.if-gone-ne0.true c.stays-then-gone-ne0.result c.stays-then-gone-ne0.ensures in
+    step_refused a.store.now q p.0.all p.1 a.to a.level a.address a.out.now v.result _ none (v.ensures.gone, v.ensures.buffer) c.if-gone-ne0.true c.stays-then-gone-ne0.result c.stays-then-gone-ne0.ensures in
     record { step = made.0; buffer = made.1 }
 
 pub overflow_sub-others : goal.overflow_sub-others
@@ -92,7 +92,7 @@ overflow_sub-others c =
     let j = c.judge-held in
     let o = c.or_else-refusal in
     let number : o.result ≡ none_by n q =
-      none_by_lem n a.head a.first a.count a.lengths.now a.clocks.now a.totals.now o.result j.result.refusal c.refuse.result j.ensures.number c.refuse.ensures o.ensures in
+    none_by_lem n a.head a.first a.count a.lengths.now a.clocks.now a.totals.now o.result j.result.refusal c.refuse.result j.ensures.number c.refuse.ensures o.ensures in
     let none : none_by n q ≡ 0 = sym number ∙ c.if-refusal-ne0.false in
     let w : Inside n q × (0 < a.count) = some_wait n q none in
     omega (arith, w.1)
@@ -106,7 +106,7 @@ overflow_cast-n c =
     let j = c.judge-held in
     let o = c.or_else-refusal in
     let number : o.result ≡ none_by n q =
-      none_by_lem n a.head a.first a.count a.lengths.now a.clocks.now a.totals.now o.result j.result.refusal c.refuse.result j.ensures.number c.refuse.ensures o.ensures in
+    none_by_lem n a.head a.first a.count a.lengths.now a.clocks.now a.totals.now o.result j.result.refusal c.refuse.result j.ensures.number c.refuse.ensures o.ensures in
     let none : none_by n q ≡ 0 = sym number ∙ c.if-refusal-ne0.false in
     let w : Inside n q × (0 < a.count) = some_wait n q none in
     omega (arith, w.0.store)
@@ -120,7 +120,7 @@ place_after-requires c =
     let j = c.judge-held in
     let o = c.or_else-refusal in
     let number : o.result ≡ none_by n q =
-      none_by_lem n a.head a.first a.count a.lengths.now a.clocks.now a.totals.now o.result j.result.refusal c.refuse.result j.ensures.number c.refuse.ensures o.ensures in
+    none_by_lem n a.head a.first a.count a.lengths.now a.clocks.now a.totals.now o.result j.result.refusal c.refuse.result j.ensures.number c.refuse.ensures o.ensures in
     let none : none_by n q ≡ 0 = sym number ∙ c.if-refusal-ne0.false in
     let w : Inside n q × (0 < a.count) = some_wait n q none in
     omega (arith, w.0.store, w.0.place, p.0.octets a.first)
@@ -134,7 +134,7 @@ place_after-requires-2 c =
     let j = c.judge-held in
     let o = c.or_else-refusal in
     let number : o.result ≡ none_by n q =
-      none_by_lem n a.head a.first a.count a.lengths.now a.clocks.now a.totals.now o.result j.result.refusal c.refuse.result j.ensures.number c.refuse.ensures o.ensures in
+    none_by_lem n a.head a.first a.count a.lengths.now a.clocks.now a.totals.now o.result j.result.refusal c.refuse.result j.ensures.number c.refuse.ensures o.ensures in
     let none : none_by n q ≡ 0 = sym number ∙ c.if-refusal-ne0.false in
     let w : Inside n q × (0 < a.count) = some_wait n q none in
     omega (arith, w.0.slot)
@@ -148,10 +148,10 @@ returns c =
     let j = c.judge-held in
     let o = c.or_else-refusal in
     let number : o.result ≡ none_by n q =
-      none_by_lem n a.head a.first a.count a.lengths.now a.clocks.now a.totals.now o.result j.result.refusal c.refuse.result j.ensures.number c.refuse.ensures o.ensures in
+    none_by_lem n a.head a.first a.count a.lengths.now a.clocks.now a.totals.now o.result j.result.refusal c.refuse.result j.ensures.number c.refuse.ensures o.ensures in
     let none : none_by n q ≡ 0 = sym number ∙ c.if-refusal-ne0.false in
     let v = c.send_on-gone in
     let made =
-      step_done a.store.now q p.0.all p.1 a.to a.level a.address a.out.now v.result _ none (v.ensures.gone, v.ensures.buffer) c.if-gone-ne0.false
-      c.place_after.result c.place_after-2.result _ c.place_after.ensures c.place_after-2.ensures refl in
+    step_done a.store.now q p.0.all p.1 a.to a.level a.address a.out.now v.result _ none (v.ensures.gone, v.ensures.buffer) c.if-gone-ne0.false
+    c.place_after.result c.place_after-2.result _ c.place_after.ensures c.place_after-2.ensures refl in
     record { step = made.0; buffer = made.1 }
