@@ -1,4 +1,6 @@
 // The waiting room at a node: frames wait in a lent store, first in, first out, until they are sent on; and what a level would give back of them.
+#![tactic(auto)]
+
 ghost use Rattle.std.specs.Prelude.{◌≡◌, length};
 ghost use Rattle.ring.specs.Parts.{Slots};
 ghost use Rattle.room.specs.Plain.{entered, left};
