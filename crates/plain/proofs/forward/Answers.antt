@@ -2,7 +2,6 @@
 use Prim.Native.Nat.{ℕ}
 use mathlib.Core.Path.{sym, ap, ◌∙◌}
 use mathlib.Core.List.{◌++◌}
-use borrow.Author.Rules.{rules}
 use lib.ListN.{length, drop}
 use Rattle.onward.proofs.SentLaws.{answer_refused, buffer_refused, answer_done, buffer_done}
 use Rattle.plain_passes.specs.Passes.{passed}
