@@ -16,7 +16,7 @@ returns-then-spot-ne0 c =
     let r = c.readings-read in
     let h = c.three-totals in
     let made : Met a.store.now a.q a.frame.now v.result v.new.store =
-      met a.store.now a.q a.frame.now v.result v.new.store w.result r.result h.result w.ensures.0 w.ensures.1.all r.ensures.0 r.ensures.1 h.ensures.0 h.ensures.1 v.ensures.spot v.ensures.store in
+    met a.store.now a.q a.frame.now v.result v.new.store w.result r.result h.result w.ensures.0 w.ensures.1.all r.ensures.0 r.ensures.1 h.ensures.0 h.ensures.1 v.ensures.spot v.ensures.store in
     let all = entry_refused a.store.now a.q a.frame.now a.clock v.result v.new.store made c.if-spot-ne0.true in
     record { answer = all.0; store = all.1.0; waits = all.1.1 }
 
@@ -28,7 +28,7 @@ overflow_add-count c =
     let r = c.readings-read in
     let h = c.three-totals in
     let made : Met a.store.now a.q a.frame.now v.result v.new.store =
-      met a.store.now a.q a.frame.now v.result v.new.store w.result r.result h.result w.ensures.0 w.ensures.1.all r.ensures.0 r.ensures.1 h.ensures.0 h.ensures.1 v.ensures.spot v.ensures.store in
+    met a.store.now a.q a.frame.now v.result v.new.store w.result r.result h.result w.ensures.0 w.ensures.1.all r.ensures.0 r.ensures.1 h.ensures.0 h.ensures.1 v.ensures.spot v.ensures.store in
     let room : Slotted a.q a.frame.now v.result = slotted a.store.now a.q a.frame.now a.clock v.result v.new.store made c.if-spot-ne0.false in
     omega (arith, room.few)
 
@@ -40,7 +40,7 @@ overflow_cast-lengths c =
     let r = c.readings-read in
     let h = c.three-totals in
     let made : Met a.store.now a.q a.frame.now v.result v.new.store =
-      met a.store.now a.q a.frame.now v.result v.new.store w.result r.result h.result w.ensures.0 w.ensures.1.all r.ensures.0 r.ensures.1 h.ensures.0 h.ensures.1 v.ensures.spot v.ensures.store in
+    met a.store.now a.q a.frame.now v.result v.new.store w.result r.result h.result w.ensures.0 w.ensures.1.all r.ensures.0 r.ensures.1 h.ensures.0 h.ensures.1 v.ensures.spot v.ensures.store in
     let room : Slotted a.q a.frame.now v.result = slotted a.store.now a.q a.frame.now a.clock v.result v.new.store made c.if-spot-ne0.false in
     omega (arith, room.short)
 
@@ -52,7 +52,7 @@ bounds-lengths-slot c =
     let r = c.readings-read in
     let h = c.three-totals in
     let made : Met a.store.now a.q a.frame.now v.result v.new.store =
-      met a.store.now a.q a.frame.now v.result v.new.store w.result r.result h.result w.ensures.0 w.ensures.1.all r.ensures.0 r.ensures.1 h.ensures.0 h.ensures.1 v.ensures.spot v.ensures.store in
+    met a.store.now a.q a.frame.now v.result v.new.store w.result r.result h.result w.ensures.0 w.ensures.1.all r.ensures.0 r.ensures.1 h.ensures.0 h.ensures.1 v.ensures.spot v.ensures.store in
     let room : Slotted a.q a.frame.now v.result = slotted a.store.now a.q a.frame.now a.clock v.result v.new.store made c.if-spot-ne0.false in
     room.below
 
@@ -64,7 +64,7 @@ bounds-clocks-slot c =
     let r = c.readings-read in
     let h = c.three-totals in
     let made : Met a.store.now a.q a.frame.now v.result v.new.store =
-      met a.store.now a.q a.frame.now v.result v.new.store w.result r.result h.result w.ensures.0 w.ensures.1.all r.ensures.0 r.ensures.1 h.ensures.0 h.ensures.1 v.ensures.spot v.ensures.store in
+    met a.store.now a.q a.frame.now v.result v.new.store w.result r.result h.result w.ensures.0 w.ensures.1.all r.ensures.0 r.ensures.1 h.ensures.0 h.ensures.1 v.ensures.spot v.ensures.store in
     let room : Slotted a.q a.frame.now v.result = slotted a.store.now a.q a.frame.now a.clock v.result v.new.store made c.if-spot-ne0.false in
     room.below
 
@@ -76,7 +76,7 @@ raise-requires c =
     let r = c.readings-read in
     let h = c.three-totals in
     let made : Met a.store.now a.q a.frame.now v.result v.new.store =
-      met a.store.now a.q a.frame.now v.result v.new.store w.result r.result h.result w.ensures.0 w.ensures.1.all r.ensures.0 r.ensures.1 h.ensures.0 h.ensures.1 v.ensures.spot v.ensures.store in
+    met a.store.now a.q a.frame.now v.result v.new.store w.result r.result h.result w.ensures.0 w.ensures.1.all r.ensures.0 r.ensures.1 h.ensures.0 h.ensures.1 v.ensures.spot v.ensures.store in
     let room : Slotted a.q a.frame.now v.result = slotted a.store.now a.q a.frame.now a.clock v.result v.new.store made c.if-spot-ne0.false in
     let t : Totalled h.result = rw h.ensures.0 room.totals in
     (t, room.blocks)
@@ -89,8 +89,8 @@ returns c =
     let r = c.readings-read in
     let h = c.three-totals in
     let made : Met a.store.now a.q a.frame.now v.result v.new.store =
-      met a.store.now a.q a.frame.now v.result v.new.store w.result r.result h.result w.ensures.0 w.ensures.1.all r.ensures.0 r.ensures.1 h.ensures.0 h.ensures.1 v.ensures.spot v.ensures.store in
+    met a.store.now a.q a.frame.now v.result v.new.store w.result r.result h.result w.ensures.0 w.ensures.1.all r.ensures.0 r.ensures.1 h.ensures.0 h.ensures.1 v.ensures.spot v.ensures.store in
     let all =
-      entry_done a.store.now a.q a.frame.now a.clock v.result v.new.store made c.if-spot-ne0.false _ _ c.raise.new.totals refl refl
-      (λ g e. c.raise.ensures g e ∙ ap (raised g) h.ensures.0) in
+    entry_done a.store.now a.q a.frame.now a.clock v.result v.new.store made c.if-spot-ne0.false _ _ c.raise.new.totals refl refl
+    (λ g e. c.raise.ensures g e ∙ ap (raised g) h.ensures.0) in
     record { answer = all.0; store = all.1.0; waits = all.1.1 }

@@ -1,5 +1,4 @@
 use mathlib.Core.Path.{◌∙◌}
-use borrow.Author.Rules.{rules}
 use Rattle.room.proofs.FreedLaws.{freed_bare}
 use Rattle.queue.proofs.freed.Goals as goal
 

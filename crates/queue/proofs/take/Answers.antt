@@ -22,6 +22,6 @@ returns c =
     let h = c.three-totals in
     let v = c.take_by-step in
     let all =
-      taken_by a.store.now a.q a.to a.level a.address a.out.now w.result r.result h.result w.ensures.0 w.ensures.1.all r.ensures.0 r.ensures.1 h.ensures.0 h.ensures.1 v.result v.ensures.step
-      _ v.ensures.buffer c.lower.new.totals c.lower.ensures in
+    taken_by a.store.now a.q a.to a.level a.address a.out.now w.result r.result h.result w.ensures.0 w.ensures.1.all r.ensures.0 r.ensures.1 h.ensures.0 h.ensures.1 v.result v.ensures.step
+    _ v.ensures.buffer c.lower.new.totals c.lower.ensures in
     record { answer = all.0; buffer = all.1.0; waits = all.1.1 }

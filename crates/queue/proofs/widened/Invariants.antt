@@ -1,14 +1,7 @@
-use Prim.Native.Nat.{ℕ, ◌+◌, ◌-◌, ◌≤◌}
-use mathlib.Core.Path.{◌≡◌, refl, ap, ◌∙◌}
-use mathlib.Core.List.{List, ◌++◌}
-use native.Mathlib.Omega.{arith}
-use lib.ListN.{length, take, drop, get_or, set}
-use mir.Syntax.{w8}
-use mir.Val.{Fits}
-use Rattle.octets.proofs.PartLaws.{copied_more}
-use Rattle.queue.proofs.AnswerLaws.{copied_whole}
-use borrow.Author.Rules.{rules}
-use Rattle.queue.proofs.widened.Reads as reads
+use Prim.Native.Nat.{◌-◌, ◌≤◌}
+use mathlib.Core.Path.{◌≡◌}
+use mathlib.Core.List.{◌++◌}
+use lib.ListN.{length, take, drop}
 use Rattle.queue.proofs.widened.Given as goal
 
 abbrev pub invariant-loop-i : goal.invariant-loop-i
