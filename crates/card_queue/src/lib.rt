@@ -1,4 +1,6 @@
 // The calls for a host in C or Rust that go by the numbers of a queue alone: an empty one, and a question.
+#![tactic(auto)]
+
 ghost use Rattle.std.specs.Prelude.{◌≡◌, [], ◌∷◌, length};
 ghost use Rattle.refusals.specs.Refusals.{◌or_else◌, if_taken};
 ghost use Rattle.queue.specs.Calls.{fresh_queue};
