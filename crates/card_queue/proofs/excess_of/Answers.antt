@@ -1,4 +1,4 @@
-use Rattle.std.proofs.Common.{ℕ, ◌+◌, ◌/◌, ◌<◌, refl, ap, ◌∙◌, add-one, arith, length, get_or, rules}
+use Rattle.std.proofs.Common.{ℕ, ◌+◌, ◌/◌, ◌<◌, refl, ap, ◌∙◌, add-one, arith, length, get_or}
 use lib.Seq.{take_all}
 use Rattle.card_queue.specs.Parts.{excess}
 use Rattle.card_queue.proofs.QueueLaws.{excess_more}

@@ -1,4 +1,4 @@
-use Rattle.std.proofs.Common.{ℕ, ◌-◌, ◌*◌, ◌≤◌, ◌≡◌, take}
+use Rattle.std.proofs.Common.{◌-◌, ◌*◌, ◌≤◌, ◌≡◌, take}
 use Rattle.card_queue.specs.Parts.{excess}
 use Rattle.card_queue.proofs.excess_of.Given as goal
 

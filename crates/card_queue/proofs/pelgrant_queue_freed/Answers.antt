@@ -82,6 +82,6 @@ returns c =
     let v = c.freed_by-given in
     let so = freed_so a.kept.now a.level none v.result v.ensures in
     let all =
-      flat_done a.kept.now a.answer.now f.result f.new.answer flat c.if-flat-ne0.false (kept_freed a.kept.now a.level).refusal (kept_freed a.kept.now a.level).octets v.result.refusal v.result.octets
-      (ap (λ (x : GivenBack). x.refusal) so) (ap (λ (x : GivenBack). x.octets) so) in
+    flat_done a.kept.now a.answer.now f.result f.new.answer flat c.if-flat-ne0.false (kept_freed a.kept.now a.level).refusal (kept_freed a.kept.now a.level).octets v.result.refusal v.result.octets
+    (ap (λ (x : GivenBack). x.refusal) so) (ap (λ (x : GivenBack). x.octets) so) in
     record { number = all.0; answer = all.1 }

@@ -1,4 +1,4 @@
-use Rattle.std.proofs.Common.{ℕ, refl, sym, ap, ◌∙◌, List, arith, length, set, length-set}
+use Rattle.std.proofs.Common.{ℕ, refl, ap, ◌∙◌, List, arith, length, set, length-set}
 use Rattle.queue.specs.Calls.{fresh_queue}
 use Rattle.card.proofs.CardLaws.{sized, left_alone, answered}
 use Rattle.card_queue.specs.Queues.{queue_numbers, size_refusal}
