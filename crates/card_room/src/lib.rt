@@ -1,4 +1,6 @@
 // The calls for a host in C or Rust by which frames enter a waiting room and leave it, on numbers and on slices that are lent.
+#![tactic(auto)]
+
 ghost use Rattle.std.specs.Prelude.{◌≡◌, [], ◌∷◌};
 ghost use Rattle.refusals.specs.Refusals.{◌or_else◌, if_taken};
 ghost use Rattle.card.specs.Card.{short, written};
