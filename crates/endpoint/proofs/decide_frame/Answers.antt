@@ -8,7 +8,7 @@ use Rattle.endpoint.proofs.decide_frame.Goals as goal
 pub returns-then-first-ne0 : goal.returns-then-first-ne0
 returns-then-first-ne0 c =
     let first : let a = c.args in c.or_else-first.result ≡ refusal14 a.e or_else refusal18 a.e a.clock =
-      c.or_else-first.ensures ∙ ap₂ ◌or_else◌ c.refusal_14.ensures c.refusal_18.ensures in
+    c.or_else-first.ensures ∙ ap₂ ◌or_else◌ c.refusal_14.ensures c.refusal_18.ensures in
     let a = c.args in
     let n = c.before in
     decided_early a.e a.frame.now a.clock n.or_else-first.result (first) c.if-first-ne0.true

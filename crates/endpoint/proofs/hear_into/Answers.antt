@@ -1,5 +1,4 @@
 -- `endpoint::hear_into` meets its contract.
-use native.Mathlib.Omega.{arith}
 use Rattle.endpoint.proofs.ReadLaws.{into_refused, into_taken}
 use Rattle.endpoint.proofs.hear_into.Goals as goal
 

@@ -1,10 +1,10 @@
 -- `endpoint::quiet` meets its contract: before each turn the first i samples are 0.
-use Prim.Native.Nat.{ℕ, ◌≤◌, ◌-◌}
+use Prim.Native.Nat.{ℕ}
 use mathlib.Core.Path.{◌≡◌, refl, ap, ◌∙◌}
 use mathlib.Core.List.{List, ◌++◌}
 use native.Mathlib.Numerals.{add-one}
 use native.Mathlib.Omega.{arith}
-use lib.ListN.{length, drop, set, replicate, length-set}
+use lib.ListN.{drop, set, replicate, length-set}
 use Rattle.octets.specs.Octets.{tab}
 use Rattle.octets.proofs.TabLaws.{tab_more}
 use Rattle.endpoint.proofs.quiet.Goals as goal

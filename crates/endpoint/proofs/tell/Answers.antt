@@ -2,7 +2,6 @@
 use mathlib.Core.Path.{refl, ap, ◌∙◌}
 use Rattle.coding.specs.Coding.{sample_bits}
 use Rattle.endpoint.proofs.ReadLaws.{told_refused, told_taken}
-use native.Mathlib.Omega.{arith}
 use Rattle.endpoint.proofs.tell.Goals as goal
 
 pub returns-then-n-ne0 : goal.returns-then-n-ne0

@@ -1,4 +1,3 @@
-use native.Mathlib.Omega.{arith}
 use mathlib.Core.Path.{sym, ◌∙◌}
 use Rattle.onward.specs.Onward.{wait_of}
 use Rattle.node.proofs.ForwardLaws.{forward_refused, forward_done, sendable}

@@ -1,4 +1,3 @@
-use native.Mathlib.Omega.{arith}
 use mathlib.Core.Path.{sym, ◌∙◌}
 use Rattle.onward.specs.Onward.{wait_of}
 use Rattle.origin.proofs.SignalLaws.{signal_refused, signal_done}

@@ -9,7 +9,7 @@ use Rattle.origin.proofs.write_signal.Goals as goal
 pub head-made-requires : goal.head-made-requires
 head-made-requires c =
     let known : SignalTaken c.args.bits c.args.na c.args.wait c.args.address (length c.args.out.now) =
-      signal_taken c.args.bits c.args.na c.args.wait c.args.address (length c.args.out.now) c.requires.0 in
+    signal_taken c.args.bits c.args.na c.args.wait c.args.address (length c.args.out.now) c.requires.0 in
     let s = c.before in
     inside_low s.args.address (known).inside
 
@@ -17,7 +17,7 @@ pub put_head-requires : goal.put_head-requires
 unfolding signal_head
 put_head-requires c =
     let known : SignalTaken c.args.bits c.args.na c.args.wait c.args.address (length c.args.out.now) =
-      signal_taken c.args.bits c.args.na c.args.wait c.args.address (length c.args.out.now) c.requires.0 in
+    signal_taken c.args.bits c.args.na c.args.wait c.args.address (length c.args.out.now) c.requires.0 in
     let s = c.before in
     let k = known in
     let h = c.head-made in
@@ -26,7 +26,7 @@ put_head-requires c =
 pub seal-requires : goal.seal-requires
 seal-requires c =
     let known : SignalTaken c.args.bits c.args.na c.args.wait c.args.address (length c.args.out.now) =
-      signal_taken c.args.bits c.args.na c.args.wait c.args.address (length c.args.out.now) c.requires.0 in
+    signal_taken c.args.bits c.args.na c.args.wait c.args.address (length c.args.out.now) c.requires.0 in
     let k = known in
     omega arith
 

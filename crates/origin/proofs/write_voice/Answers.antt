@@ -11,7 +11,7 @@ use Rattle.origin.proofs.write_voice.Goals as goal
 pub made_head-made-requires : goal.made_head-made-requires
 made_head-made-requires c =
     let known : SendTaken c.args.sseq c.args.step c.args.coding c.args.noise c.args.samples.now c.args.level c.args.wait c.args.address (length c.args.out.now) =
-      send_taken c.args.sseq c.args.step c.args.coding c.args.noise c.args.samples.now c.args.level c.args.wait c.args.address (length c.args.out.now) c.requires.0 in
+    send_taken c.args.sseq c.args.step c.args.coding c.args.noise c.args.samples.now c.args.level c.args.wait c.args.address (length c.args.out.now) c.requires.0 in
     let s = c.before in
     let a = s.args in
     let k = known in
@@ -20,7 +20,7 @@ made_head-made-requires c =
 pub put_head-requires : goal.put_head-requires
 put_head-requires c =
     let known : SendTaken c.args.sseq c.args.step c.args.coding c.args.noise c.args.samples.now c.args.level c.args.wait c.args.address (length c.args.out.now) =
-      send_taken c.args.sseq c.args.step c.args.coding c.args.noise c.args.samples.now c.args.level c.args.wait c.args.address (length c.args.out.now) c.requires.0 in
+    send_taken c.args.sseq c.args.step c.args.coding c.args.noise c.args.samples.now c.args.level c.args.wait c.args.address (length c.args.out.now) c.requires.0 in
     let m = c.before in
     let s = m.before in
     let a = s.args in
@@ -31,7 +31,7 @@ put_head-requires c =
 pub pack-requires : goal.pack-requires
 pack-requires c =
     let known : SendTaken c.args.sseq c.args.step c.args.coding c.args.noise c.args.samples.now c.args.level c.args.wait c.args.address (length c.args.out.now) =
-      send_taken c.args.sseq c.args.step c.args.coding c.args.noise c.args.samples.now c.args.level c.args.wait c.args.address (length c.args.out.now) c.requires.0 in
+    send_taken c.args.sseq c.args.step c.args.coding c.args.noise c.args.samples.now c.args.level c.args.wait c.args.address (length c.args.out.now) c.requires.0 in
     let s = c.before in
     let a = s.args in
     let k = known in
@@ -40,7 +40,7 @@ pack-requires c =
 pub seal-requires : goal.seal-requires
 seal-requires c =
     let known : SendTaken c.args.sseq c.args.step c.args.coding c.args.noise c.args.samples.now c.args.level c.args.wait c.args.address (length c.args.out.now) =
-      send_taken c.args.sseq c.args.step c.args.coding c.args.noise c.args.samples.now c.args.level c.args.wait c.args.address (length c.args.out.now) c.requires.0 in
+    send_taken c.args.sseq c.args.step c.args.coding c.args.noise c.args.samples.now c.args.level c.args.wait c.args.address (length c.args.out.now) c.requires.0 in
     let s = c.before in
     let a = s.args in
     omega (arith, enough_room a.sseq a.step a.coding a.noise a.samples.now a.level a.wait a.address (length a.out.now) (known))
