@@ -1,4 +1,4 @@
-use Rattle.std.proofs.Common.{◌≡◌, ◌+◌, ◌∙◌, sym, arith, length, get_or, length-set, rules}
+use Rattle.std.proofs.Common.{◌≡◌, ◌+◌, ◌∙◌, sym, arith, length, get_or, length-set}
 use Rattle.queue.proofs.AnswerLaws.{Slotted}
 use Rattle.card_queue.specs.Queues.{queue_of, kept_refusal}
 use Rattle.card_queue.proofs.QueueLaws.{part_3, fits}

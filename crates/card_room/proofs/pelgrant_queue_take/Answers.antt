@@ -1,4 +1,4 @@
-use Rattle.std.proofs.Common.{◌≡◌, arith, length, length-set, rules}
+use Rattle.std.proofs.Common.{◌≡◌, arith, length, length-set}
 use Rattle.card_queue.specs.Queues.{kept_refusal}
 use Rattle.card_queue.proofs.QueueLaws.{clocks_32, part_3, fits, Flat, flat_goes, flat_room}
 use Rattle.card_room.proofs.StoredLaws.{put_size}
@@ -168,6 +168,6 @@ returns c =
     let v = c.take_by-step in
     let l = c.lower in
     let all =
-      take_done a.store.now a.kept.now a.to a.level a.address a.out.now a.answer.now f.result f.new.answer flat c.if-flat-ne0.false v.result v.ensures.step
-      _ v.ensures.buffer c.if-step-ne0.false l.new.totals l.auto.totals l.ensures in
+    take_done a.store.now a.kept.now a.to a.level a.address a.out.now a.answer.now f.result f.new.answer flat c.if-flat-ne0.false v.result v.ensures.step
+    _ v.ensures.buffer c.if-step-ne0.false l.new.totals l.auto.totals l.ensures in
     record { number = all.0; answer = all.1.0; out = all.1.1.0; kept = all.1.1.1 }
