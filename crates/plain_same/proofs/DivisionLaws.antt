@@ -1,4 +1,4 @@
--- The remainder of the division is what the register holds, for a list of any length; and so the plain check is the quick one.
+-- The remainder of the division is what the register holds, for a list of any length.
 use Prim.Native.Nat.{ℕ, zero, suc, ◌+◌, ◌-◌, ◌*◌, ◌/◌, ◌%◌, ◌^◌, ◌<◌}
 use mathlib.Core.Path.{◌≡◌, refl, sym, ap, ap₂, ◌∙◌}
 use mathlib.Core.List.{List, [], ◌∷◌, ◌++◌, append_assoc}
@@ -6,15 +6,15 @@ use native.Mathlib.Nat.{suc-add, zero-add, pow-suc, div-div-eq-div-mul}
 use native.Mathlib.Omega.{arith}
 use lib.Arith.{lt-one}
 use lib.Bits.{bit_xor, xor_comm}
-use lib.ListN.{length, get_or, take, drop, length-append, replicate}
+use lib.ListN.{length, get_or, length-append, replicate}
 use lib.Seq.{ext_get_or}
 use Rattle.octets.specs.Octets.{tab}
 use Rattle.octets.proofs.TabLaws.{length_tab, get_or_tab}
 use Rattle.octets.proofs.XorLaws.{xor_half, xor_odd}
-use Rattle.fcs.specs.Fcs.{generator, fcs_step, fcs_bits, fcs_run, fcs_of, fcs_octets}
-use Rattle.fcs.proofs.RunLaws.{step_below, bits_below, run_below}
-use Rattle.plain_check.specs.Bits.{bit, octet_bits, number}
-use Rattle.plain_check.specs.Check.{message_bits, added, complemented, dividend, generator_polynomial, reduced, line, lines, remainder, check_sequence, check_octets}
+use Rattle.fcs.specs.Fcs.{generator, fcs_step, fcs_bits, fcs_run}
+use Rattle.fcs.proofs.RunLaws.{step_below, bits_below}
+use Rattle.plain_check.specs.Bits.{bit, octet_bits}
+use Rattle.plain_check.specs.Check.{message_bits, added, complemented, dividend, generator_polynomial, reduced, line, lines, remainder}
 use Rattle.plain_check.proofs.BitLaws.{Binary, binary_append, length_added}
 use Rattle.plain_check.proofs.WalkLaws.{length_message}
 
@@ -176,42 +176,3 @@ remainder_is message =
     ap₂ lines long (ap (λ (l : List ℕ). added l all) ones_are)
     ∙ lines_message message (replicate 16 0) 65535 (omega arith) (binary_zeros 16)
     ∙ zeros_leave 16 (fcs_run 65535 message)
-
-number_low : (n x : ℕ) → x < 2 ^ n → number (low_bits n x) ≡ x
-unfolding number low_bits
-number_low zero x h = sym (lt-one h)
-number_low (suc n) x h = omega (arith, number_low n (x / 2) (omega (arith, pow-suc 2 n)))
-
--- and read as a number
-pub register_is : (message : List ℕ) → number (remainder (dividend message)) ≡ fcs_run 65535 message
-register_is message = ap number (remainder_is message) ∙ number_low 16 (fcs_run 65535 message) (run_below 65535 message (omega arith))
-
-complement_low : (n x : ℕ) → x < 2 ^ n → added (replicate n 1) (low_bits n x) ≡ low_bits n (2 ^ n - 1 - x)
-unfolding added low_bits
-complement_low zero x h = refl
-complement_low (suc n) x h =
-    ap₂ (λ (b : ℕ) (t : List ℕ). b ∷ t)
-    (omega (arith, pow-suc 2 n))
-    (complement_low n (x / 2) (omega (arith, pow-suc 2 n)) ∙ ap (low_bits n) (omega (arith, pow-suc 2 n)))
-
-sequence_is : (message : List ℕ) → check_sequence message ≡ low_bits 16 (fcs_of message)
-unfolding check_sequence complemented fcs_of
-sequence_is message =
-    ap (added (replicate 16 1)) (remainder_is message)
-    ∙ complement_low 16 (fcs_run 65535 message) (run_below 65535 message (omega arith))
-
--- sixteen bits as two octets
-first_octet : (y : ℕ) → number (take 8 (low_bits 16 y)) ≡ y % 256
-unfolding low_bits number
-first_octet y = omega arith
-
-second_octet : (y : ℕ) → y < 65536 → number (drop 8 (low_bits 16 y)) ≡ y / 256
-unfolding low_bits number
-second_octet y h = omega arith
-
--- on every list the plain check is the quick one
-pub check_is : (message : List ℕ) → check_octets message ≡ fcs_octets message
-unfolding check_octets fcs_octets fcs_of
-check_is message =
-    ap (λ (s : List ℕ). number (take 8 s) ∷ number (drop 8 s) ∷ []) (sequence_is message)
-    ∙ ap₂ (λ (x y : ℕ). x ∷ y ∷ []) (first_octet (fcs_of message)) (second_octet (fcs_of message) (omega arith))

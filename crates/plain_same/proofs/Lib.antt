@@ -1,4 +1,5 @@
 pub mod BlockLaws
+pub mod CheckLaws
 pub mod DivisionLaws
 pub mod SameCalls
 pub mod SameOrders

@@ -27,7 +27,7 @@ use Rattle.plain_order.proofs.OrderLaws.{taken_long}
 use Rattle.plain_passes.specs.Passes.{drop_pass}
 use Rattle.plain_packet.specs.Packet.{out_of_turn, too_large, samples_wrong, packet_order, send_order}
 use Rattle.plain.specs.Forward.{forward_order}
-use Rattle.plain_same.proofs.DivisionLaws.{check_is}
+use Rattle.plain_same.proofs.CheckLaws.{check_is}
 use Rattle.plain_same.proofs.StepLaws.{drop_onward}
 
 -- one question, and then the rest of the order: it asks for the number q

@@ -18,7 +18,7 @@ use Rattle.plain_passes.specs.Passes.{voice_field, blocks_dropped, drop_pass, st
 use Rattle.plain_passes.proofs.PassLaws.{drop_length}
 use Rattle.plain_packet.specs.Packet.{plain_header, plain_made}
 use Rattle.plain.specs.Send.{plain_sent}
-use Rattle.plain_same.proofs.DivisionLaws.{check_is}
+use Rattle.plain_same.proofs.CheckLaws.{check_is}
 use Rattle.plain_same.proofs.BlockLaws.{picked_blocks_lem}
 
 -- a frame is its octets 1 to 8 and a rest
