@@ -11,8 +11,7 @@ ghost use Rattle.card_queue.specs.Parts.{excess};
 use refusals::{refusal_16, refuse};
 
 // An empty queue.
-#[unsafe(no_mangle)]
-pub extern "C" fn pelgrant_queue_fresh(kept: &mut [u32]) -> u8
+pub fn pelgrant_queue_fresh(kept: &mut [u32]) -> u8
     ensures number { result ≡ size_refusal (length kept.old) }
     ensures kept { kept.new ≡ written (size_refusal (length kept.old)) (queue_numbers fresh_queue) kept.old }
 {
@@ -69,8 +68,7 @@ pub fn flat_refusal(kept: &[u32], answer: &mut [u64]) -> u8
 }
 
 // What a level would give back.
-#[unsafe(no_mangle)]
-pub extern "C" fn pelgrant_queue_freed(kept: &[u32], level: u8, answer: &mut [u64]) -> u8
+pub fn pelgrant_queue_freed(kept: &[u32], level: u8, answer: &mut [u64]) -> u8
     ensures number { result ≡ short 1 answer.old or_else (kept_freed kept.now level).refusal }
     ensures answer { answer.new ≡ written (short 1 answer.old) ((kept_freed kept.now level).octets ∷ []) answer.old }
 {

@@ -30,8 +30,7 @@ fn record_numbers(e: Endpoint) -> [u64; 9]
 }
 
 // A fresh record.
-#[unsafe(no_mangle)]
-pub extern "C" fn pelgrant_fresh(buildout: u8, kept: &mut [u64]) -> u8
+pub fn pelgrant_fresh(buildout: u8, kept: &mut [u64]) -> u8
     ensures number { result ≡ record_refusal (length kept.old) }
     ensures kept { kept.new ≡ written (record_refusal (length kept.old)) (record_numbers (fresh_record buildout)) kept.old }
 {
