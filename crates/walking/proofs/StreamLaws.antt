@@ -2,12 +2,12 @@
 use Prim.Native.Nat.{ℕ, ◌+◌, ◌-◌, ◌≤◌, ◌<◌}
 use mathlib.Core.Path.{◌≡◌, refl, sym, ap, ◌∙◌}
 use mathlib.Core.Bool.{Bool, true, false, ◌&&◌, ◌||◌, not}
-use mathlib.Core.List.{List, [], ◌∷◌, ◌++◌, append_assoc, append-nil}
+use mathlib.Core.List.{List, [], ◌++◌, append_assoc, append-nil}
 use native.Mathlib.Nat.{add_comm}
 use native.Mathlib.Omega.{arith}
 use lib.Dec.{leb, ltb}
-use lib.ListN.{length, take, drop, get_or, set, length-append, length-take, length-drop, drop_of_length-le}
-use lib.Seq.{sets, sets-eq, length-sets, length-take-le, get_or-append-add, get_or-drop, take_at, take-append-le, take-take, take-add, drop_at, drop-append-le, drop-drop}
+use lib.ListN.{length, take, drop, get_or, set, length-append, length-drop, drop_of_length-le}
+use lib.Seq.{sets-eq, length-sets, length-take-le, get_or-append-add, get_or-drop, take_at, take-append-le, take-take, take-add, drop_at, drop-append-le, drop-drop}
 use borrow.Rule.Slice.PartMut.{put_mid}
 use Rattle.std.specs.Result.{IfOk, result_unwrap_or}
 use Rattle.std.specs.Counts.{IsPrefixLen}
@@ -16,11 +16,11 @@ use borrow.Author.Tests.{leb-true, ltb-true, ltb-false, not-false}
 use Rattle.octets.proofs.PartLaws.{copied_more, tail_put}
 use Rattle.octets.proofs.BoolLaws.{and_true, or_false}
 use Rattle.walking.specs.Text.{Put}
-use Rattle.walking.specs.Walk.{Carried, Effect, step, Prints, ended, stopped, gone_on}
+use Rattle.walking.specs.Walk.{Carried, step, Prints, ended, stopped, gone_on}
 use Rattle.walking.specs.Held.{carried_of, Stepping}
 use Rattle.walking.specs.Stream.{whole, ready, PrintsOn}
 use Rattle.walking.specs.declared.Stepped.{Stepped}
-use Rattle.walking.proofs.WalkLaws.{step_front, taken_within, taken_some}
+use Rattle.walking.proofs.WalkLaws.{step_front, taken_within}
 
 -- a turn of the loop that moves the octets from `from` on to the front
 pub moved_more : (old : List ℕ) (from i : ℕ) → from + i < length old

@@ -17,13 +17,13 @@ returns-then-flat-ne0 c = let made_of = not_filled _ _ _ _ _ _ _ c.short_two-fla
 pub put-requires : goal.put-requires
 put-requires c =
     let room : let a = c.args in (3 ≤ length a.answer.now) × (128 ≤ length a.samples.now) =
-      let a = c.args in roomy_two (length a.answer.now) 3 (length a.samples.now) 128 c.short_two-flat.ensures c.if-flat-ne0.false in
+    let a = c.args in roomy_two (length a.answer.now) 3 (length a.samples.now) 128 c.short_two-flat.ensures c.if-flat-ne0.false in
     (room).0
 
 pub hear_into-requires : goal.hear_into-requires
 hear_into-requires c =
     let room : let a = c.args in (3 ≤ length a.answer.now) × (128 ≤ length a.samples.now) =
-      let a = c.args in roomy_two (length a.answer.now) 3 (length a.samples.now) 128 c.short_two-flat.ensures c.if-flat-ne0.false in
+    let a = c.args in roomy_two (length a.answer.now) 3 (length a.samples.now) 128 c.short_two-flat.ensures c.if-flat-ne0.false in
     let v = c.before in (λ z. sym v.voice_refusal-n.ensures ∙ z, (room).1)
 
 pub returns : goal.returns

@@ -1,6 +1,5 @@
 -- `card_record::no_record` meets its contract.
 use mathlib.Core.Path.{refl}
-use native.Mathlib.Omega.{arith}
 use Rattle.card_record.proofs.RecordLaws.{put_none}
 use Rattle.card_record.proofs.no_record.Goals as goal
 

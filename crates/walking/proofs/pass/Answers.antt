@@ -1,9 +1,9 @@
 use Prim.Native.Nat.{◌-◌}
-use mathlib.Core.Path.{◌≡◌, refl, sym, ◌∙◌}
+use mathlib.Core.Path.{refl, sym, ◌∙◌}
 use native.Mathlib.Omega.{arith}
 use lib.ListN.{length, take, drop}
 use borrow.Author.Tests.{not-true, not-false}
-use Rattle.walking.proofs.StreamLaws.{Run, ready_known, run_start, run_step, run_stop, run_over, taken_here, within_then, collected_then}
+use Rattle.walking.proofs.StreamLaws.{ready_known, run_start, run_step, run_stop, run_over, taken_here, within_then, collected_then}
 use Rattle.walking.proofs.WalkLaws.{taken_some}
 use Rattle.walking.specs.Held.{carried_of}
 use Rattle.walking.proofs.pass.Goals as goal

@@ -1,10 +1,7 @@
 use Prim.Native.Nat.{◌-◌}
-use mathlib.Core.Path.{◌≡◌, refl, sym, ◌∙◌}
-use native.Mathlib.Omega.{arith}
-use lib.ListN.{length, take, drop}
-use borrow.Author.Tests.{not-true, not-false}
-use Rattle.walking.proofs.StreamLaws.{Run, ready_known, run_start, run_step, run_stop, run_over, taken_here, within_then, collected_then}
-use Rattle.walking.proofs.WalkLaws.{taken_some}
+use mathlib.Core.Path.{◌≡◌}
+use lib.ListN.{length}
+use Rattle.walking.proofs.StreamLaws.{Run}
 use Rattle.walking.specs.Held.{carried_of}
 use Rattle.walking.proofs.pass.Given as goal
 

@@ -5,7 +5,6 @@ use mathlib.Core.List.{List}
 use native.Mathlib.Omega.{arith}
 use lib.ListN.{length, take}
 use lib.Seq.{length-take-le}
-use borrow.Author.Tests.{not-true, not-false}
 use Rattle.walking.specs.declared.Told.{Told}
 use Rattle.octets.specs.Records.{following}
 use Rattle.walking.specs.Walk.{Carried, Outcome, legal, first, outcome, counted}
