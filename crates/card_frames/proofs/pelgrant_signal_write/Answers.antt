@@ -1,4 +1,3 @@
-use mathlib.Core.Path.{refl}
 use Rattle.onward.specs.Onward.{wait_of}
 use Rattle.origin.specs.Signal.{signal_answer, signal_buffer}
 use Rattle.card.proofs.CardLaws.{roomy}

@@ -1,7 +1,6 @@
 use Prim.Native.Nat.{ℕ}
-use mathlib.Core.Path.{refl, ap, ◌∙◌}
+use mathlib.Core.Path.{ap, ◌∙◌}
 use mathlib.Core.List.{[], ◌∷◌}
-use native.Mathlib.Omega.{arith}
 use Rattle.frame.specs.Calls.{taken_answer}
 use Rattle.frame.specs.declared.TakenFacts.{TakenFacts}
 use Rattle.card.proofs.CardLaws.{roomy, not_called, called}
