@@ -23,6 +23,7 @@ use Rattle.endpoint.specs.Arrival.{reset_of, frame_decision, arrival_by, arrival
 use Rattle.endpoint.specs.Outcome.{told_of, outcome_of}
 use Rattle.endpoint.specs.Calls.{is_received}
 use Rattle.playout.proofs.PlayLaws.{by_decision, first_stands, decided_with, decided_number, decided_scheduled, decided_ranged, decided_near, decided_ahead, decided_apart, decided_left, decided_readable, still_stores_lem, stores_nothing, refused_stores, refused_keeps}
+use Rattle.endpoint.proofs.ReadLaws.{read_is}
 
 -- neither the number of the record nor that of the clock stores anything
 pub early_stores_nothing : (e : Endpoint) (clock : ℕ) → still_stores (refusal14 e or_else refusal18 e clock) ≡ false
@@ -185,7 +186,8 @@ module _ (e : Endpoint) (f : List ℕ) (clock : ℕ) where
       × ((arrival_of e f clock).answer.dropped ≡ (read_answer f).dropped)
       × ((arrival_of e f clock).answer.width ≡ (read_answer f).width)
       × ((arrival_of e f clock).answer.samples ≡ (read_answer f).samples)
-  unfolding arrival_of arrival_by read_answer
+  unfolding arrival_of arrival_by
   arrival_reads z =
       let n : (frame_decision e f clock).refusal ≡ voice_refusal f = z ∙ sym (arrival_readable z) in
-      (ap (λ k. (heard_of k f).s) n, ap (λ k. (heard_of k f).dropped) n, ap (λ k. (heard_of k f).width) n, ap (λ k. (heard_of k f).samples) n)
+      let r : heard_of (frame_decision e f clock).refusal f ≡ read_answer f = ap (λ k. heard_of k f) n ∙ sym (read_is f) in
+      (ap (λ h. h.s) r, ap (λ h. h.dropped) r, ap (λ h. h.width) r, ap (λ h. h.samples) r)

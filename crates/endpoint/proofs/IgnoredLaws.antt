@@ -20,7 +20,7 @@ use Rattle.playout.specs.Play.{refusal14, refusal18, still_stores}
 use Rattle.endpoint.specs.Read.{width_of, samples_of, heard_of, read_answer}
 use Rattle.endpoint.specs.Arrival.{frame_decision, reset_of, arrival_by, arrival_of}
 use Rattle.endpoint.specs.Signal.{signal_order, signal_answer}
-use Rattle.endpoint.proofs.ReadLaws.{voice_size}
+use Rattle.endpoint.proofs.ReadLaws.{voice_size, read_is}
 use Rattle.endpoint.proofs.ArrivalLaws.{early_stores_nothing, decided_unstored, arrival_readable}
 
 -- no number of the link stores anything, and 19 neither
@@ -71,8 +71,7 @@ module _ (g f : List ℕ) where
 
   module _ (long : 10 ≤ length f) (summed : link_refusal f ≡ 4 → ⊥) where
     pub read_ignores : read_answer (with_ignored g f) ≡ read_answer f
-    unfolding read_answer
-    read_ignores = ap (λ (n : ℕ). heard_of n (with_ignored g f)) (same_voice_refusal g f long summed) ∙ heard_same (voice_refusal f) (λ z. z)
+    read_ignores = read_is (with_ignored g f) ∙ ap (λ (n : ℕ). heard_of n (with_ignored g f)) (same_voice_refusal g f long summed) ∙ heard_same (voice_refusal f) (λ z. z) ∙ sym (read_is f)
 
     decided_same : (e : Endpoint) (clock : ℕ) → frame_decision e (with_ignored g f) clock ≡ frame_decision e f clock
     unfolding frame_decision

@@ -114,9 +114,13 @@ into_taken n f out x z e = e ∙ ap (λ (r : Heard). r.samples ++ drop 128 out) 
 pub all_heard : (l out x : List ℕ) → length out ≡ 128 → x ≡ l ++ drop 128 out → x ≡ l
 all_heard l out x size e = e ∙ ap (λ (r : List ℕ). l ++ r) (drop_of_length-le out {i = 128} (omega arith)) ∙ append-nil l
 
-pub read_taken : (f : List ℕ) → voice_refusal f ≡ 0 → read_answer f ≡ heard_well f
+-- what the reader answers, for the laws that go by it
+pub read_is : (f : List ℕ) → read_answer f ≡ heard_of (voice_refusal f) f
 unfolding read_answer
-read_taken f z = heard_taken (voice_refusal f) f z
+read_is f = refl
+
+pub read_taken : (f : List ℕ) → voice_refusal f ≡ 0 → read_answer f ≡ heard_well f
+read_taken f z = read_is f ∙ heard_taken (voice_refusal f) f z
 
 pub reset_refused : (n : ℕ) (f : List ℕ) → (n ≡ 0 → ⊥) → reset_of n f ≡ 0
 unfolding reset_of

@@ -16,7 +16,7 @@ use Rattle.frame.proofs.FrameLaws.{voice_taken}
 use Rattle.playout.specs.declared.Endpoint.{Endpoint}
 use Rattle.endpoint.specs.Read.{bits_of, dropped_of, width_of, samples_of, heard_of, read_answer}
 use Rattle.endpoint.specs.Arrival.{frame_decision, arrival_by, arrival_of}
-use Rattle.endpoint.proofs.ReadLaws.{read_taken}
+use Rattle.endpoint.proofs.ReadLaws.{read_is, read_taken}
 
 module _ (f : List ℕ) (h : voice_refusal f ≡ 0) where
   -- M is D, and every type keeps a block
@@ -43,8 +43,7 @@ heard_fits zero f = words_fit (drop 8 f) (width_of f)
 heard_fits (suc n) f = refl
 
 pub read_fits : (f : List ℕ) → samples_fit (read_answer f).samples (read_answer f).width ≡ true
-unfolding read_answer
-read_fits f = heard_fits (voice_refusal f) f
+read_fits f = rw (read_is f) (heard_fits (voice_refusal f) f)
 
 pub arrival_fits : (e : Endpoint) (f : List ℕ) (clock : ℕ) → samples_fit (arrival_of e f clock).answer.samples (arrival_of e f clock).answer.width ≡ true
 unfolding arrival_of arrival_by

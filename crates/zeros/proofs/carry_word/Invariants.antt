@@ -1,4 +1,4 @@
--- `zeros::carry_word` meets its contract: each turn of the loop is `turn-five`, and what is left `turn_last`.
+-- `zeros::carry_word` meets its contract: each turn of the loop is `turn_five`, and what is left `turn_last`.
 use Prim.Native.Nat.{◌-◌, ◌≤◌}
 use mathlib.Core.Path.{◌≡◌}
 use mathlib.Core.Bool.{Bool}
