@@ -2,16 +2,19 @@
 use Prim.Native.Nat.{ℕ, zero, suc, ◌+◌, ◌-◌, ◌*◌, ◌/◌, ◌%◌, ◌^◌, ◌≤◌, ◌<◌, min}
 use mathlib.Core.Path.{◌≡◌, refl, sym, ap, ap₂, ◌∙◌}
 use mathlib.Core.Bool.{Bool, true, false, cond}
-use mathlib.Core.List.{List, [], ◌∷◌, ◌++◌, append_assoc}
-use native.Mathlib.Nat.{mod-one, zero-mod, zero-div, div-one, mod-lt, mod-eq_of_lt, pow-suc, mul_comm, mul_assoc, one-mul, div-div-eq-div-mul, div-eq_of_lt, add-zero, zero-add, suc-add, not-suc-le-zero, le_of_suc-le-suc, le_of_eq, lt_of_lt_of_le, zero-min, min-zero, suc-min-suc, sub-zero, zero-sub, suc-sub-suc}
+use mathlib.Core.List.{List, [], ◌∷◌, ◌++◌, append_assoc, append-nil}
+use native.Mathlib.Nat.{mod-one, zero-mod, zero-div, div-one, mod-lt, mod-eq_of_lt, pow-suc, mul_comm, mul_assoc, one-mul, div-div-eq-div-mul, div-eq_of_lt, add-zero, zero-add, zero-mul, suc-add, not-suc-le-zero, le_of_suc-le-suc, zero-min, min-zero, suc-min-suc, sub-zero, zero-sub, suc-sub-suc}
 use native.Mathlib.Numerals.{add-one}
 use native.Mathlib.Omega.{arith}
 use lib.Dec.{eqb, lit<}
 use lib.Arith.{mod-mul, digits_lt}
 use lib.Bits.{bit_and, and_mask}
-use lib.Pow.{pow_pos, pow-add, pow_mono, shl_exact}
-use lib.ListN.{length, get_or, set, take, drop, length-append, length-drop}
-use lib.Seq.{take-nil, drop-cons, drop-drop, drop-nil, drop_at, take_at, take-add, take_all, take-take, length-take-le, paste, paste-suc, length-paste}
+use lib.Pow.{pow_pos, pow-add, shl_exact}
+use lib.ListN.{length, get_or, set, take, drop, replicate, length-append, length-drop, length-replicate, drop_of_length-le}
+use borrow.Rule.Slice.PartMut.{put_mid}
+use Rattle.std.specs.Int.{w64, from_le_bytes}
+use Rattle.std.proofs.lemmas.List.{drop-replicate}
+use lib.Seq.{take-nil, drop-cons, drop-drop, drop-nil, drop_at, take_at, take-add, take_all, take-take, length-take-le, paste-suc}
 use Rattle.bits.specs.Bits.{lowest, bits, value, octets_of}
 
 -- ---- lengths
@@ -221,43 +224,63 @@ get_or_octets (suc n) (suc j) bs h =
 
 -- ---- octets that are read as a number
 
-four_taken : (s : List ℕ) (i : ℕ) → i + 4 ≤ length s → take 4 (drop i s) ≡ get_or s i 0 ∷ get_or s (i + 1) 0 ∷ get_or s (i + 2) 0 ∷ get_or s (i + 3) 0 ∷ []
-four_taken s i h =
-    let p : i + 1 ≡ suc i = omega arith in
-    let q : i + 2 ≡ suc (suc i) = omega arith in
-    let r : i + 3 ≡ suc (suc (suc i)) = omega arith in
-    rw (p, q, r, drop-cons s i 0 (omega arith), drop-cons s (suc i) 0 (omega arith), drop-cons s (suc (suc i)) 0 (omega arith), drop-cons s (suc (suc (suc i))) 0 (omega arith))
-
 -- the number that k octets from i on make
 abbrev pub Made : ℕ → List ℕ → ℕ → ℕ → Type 0
 Made k s i w = w ≡ value (bits (take k (drop i s)))
 
-pub made_four : (s : List ℕ) (i : ℕ) {a b c d : ℕ} → i + 4 ≤ length s → (a ≡ get_or s i 0) × (a < 256) → (b ≡ get_or s (i + 1) 0) × (b < 256)
-    → (c ≡ get_or s (i + 2) 0) × (c < 256) → (d ≡ get_or s (i + 3) 0) × (d < 256)
-    → (a + b * 256 + c * 65536 + d * 16777216 < 4294967296) × Made 4 s i (a + b * 256 + c * 65536 + d * 16777216)
+-- eight octets, as the library reads them
+eight_taken : (f : List ℕ) → length f ≡ 8
+    → f ≡ get_or f 0 0 ∷ get_or f 1 0 ∷ get_or f 2 0 ∷ get_or f 3 0 ∷ get_or f 4 0 ∷ get_or f 5 0 ∷ get_or f 6 0 ∷ get_or f 7 0 ∷ []
+eight_taken f e =
+    let step : (k : ℕ) (l : List ℕ) → k < 8 → drop (suc k) f ≡ l → drop k f ≡ get_or f k 0 ∷ l =
+    λ k l h q. drop-cons f k 0 (omega arith) ∙ ap (λ (r : List ℕ). get_or f k 0 ∷ r) q in
+    step 0 _ (omega arith) (step 1 _ (omega arith) (step 2 _ (omega arith) (step 3 _ (omega arith)
+    (step 4 _ (omega arith) (step 5 _ (omega arith) (step 6 _ (omega arith) (step 7 _ (omega arith) (drop_of_length-le f {i = 8} (omega arith)))))))))
+
+le_bytes_of : (a b c d e f g h : ℕ) → a < 256 → b < 256 → c < 256 → d < 256 → e < 256 → f < 256 → g < 256 → h < 256
+    → from_le_bytes w64 (a ∷ b ∷ c ∷ d ∷ e ∷ f ∷ g ∷ h ∷ []) ≡ value (bits (a ∷ b ∷ c ∷ d ∷ e ∷ f ∷ g ∷ h ∷ []))
 unfolding bits value
-made_four s i {a} {b} {c} {d} h p q r t =
-    let e : take 4 (drop i s) ≡ a ∷ b ∷ c ∷ d ∷ [] = rw (p.0, q.0, r.0, t.0) (four_taken s i h) in
-    (omega arith, rw (e, value_octet a (b ∷ c ∷ d ∷ []) p.1, value_octet b (c ∷ d ∷ []) q.1, value_octet c (d ∷ []) r.1, value_octet d [] t.1) (omega arith))
+le_bytes_of a b c d e f g h la lb lc ld le lf lg lh =
+    rw (
+      value_octet a (b ∷ c ∷ d ∷ e ∷ f ∷ g ∷ h ∷ []) la,
+      value_octet b (c ∷ d ∷ e ∷ f ∷ g ∷ h ∷ []) lb,
+      value_octet c (d ∷ e ∷ f ∷ g ∷ h ∷ []) lc,
+      value_octet d (e ∷ f ∷ g ∷ h ∷ []) ld,
+      value_octet e (f ∷ g ∷ h ∷ []) le,
+      value_octet f (g ∷ h ∷ []) lf,
+      value_octet g (h ∷ []) lg,
+      value_octet h [] lh,
+    ) (omega arith)
 
-pub made_eight : (s : List ℕ) (i low high : ℕ) → i + 8 ≤ length s → Made 4 s i low → Made 4 s (i + 4) high → Made 8 s i (low + high * 4294967296)
-made_eight s i low high h p q =
-    let f = take 4 (drop i s) in
-    let n : length (bits f) ≡ 32 = length_bits f ∙ ap (λ (k : ℕ). 8 * k) (length-take-le 4 (drop i s) (omega (arith, length-drop i s))) in
-    rw (p, q, take-add 4 4 (drop i s), drop-drop 4 i s, bits_append f (take 4 (drop (i + 4) s)), value_append (bits f) (bits (take 4 (drop (i + 4) s))), n)
+pub le_bytes_is : (f : List ℕ) → length f ≡ 8 → ((i : ℕ) → get_or f i 0 < 256) → from_le_bytes w64 f ≡ value (bits f)
+le_bytes_is f e o =
+    let t = eight_taken f e in
+    ap (from_le_bytes w64) t ∙ le_bytes_of _ _ _ _ _ _ _ _ (o 0) (o 1) (o 2) (o 3) (o 4) (o 5) (o 6) (o 7) ∙ ap (λ (l : List ℕ). value (bits l)) (sym t)
 
--- one octet more, in front of those from k on
-pub made_more : (s : List ℕ) (k w a : ℕ) → 0 < k → k ≤ length s → w ≡ value (bits (drop k s)) → (a ≡ get_or s (k - 1) 0) × (a < 256)
-    → w * 256 + a ≡ value (bits (drop (k - 1) s))
-made_more s k w a p h e q =
-    let n : suc (k - 1) ≡ k = omega arith in
-    rw (drop-cons s (k - 1) 0 (omega arith), n, ← q.0, value_octet a (drop k s) q.1, e) (omega arith)
+octet_append : (f : List ℕ) (k : ℕ) → ((i : ℕ) → get_or f i 0 < 256) → (i : ℕ) → get_or (f ++ replicate k 0) i 0 < 256
+octet_append [] zero o i = lit< tt
+octet_append [] (suc k) o zero = lit< tt
+octet_append [] (suc k) o (suc i) = octet_append [] k o i
+octet_append (x ∷ f) k o zero = o 0
+octet_append (x ∷ f) k o (suc i) = octet_append f k (λ j. o (suc j)) i
 
--- of fewer than seven octets
-pub few_lt : (s : List ℕ) (k : ℕ) → length s < k + 7 → value (bits (drop k s)) < 2 ^ 48
-few_lt s k h =
-    let n : length (bits (drop k s)) ≤ 48 = omega (arith, length_bits (drop k s), length-drop k s) in
-    lt_of_lt_of_le (value_lt (bits (drop k s))) (pow_mono n)
+zeros_none : (k : ℕ) → value (bits (replicate k 0)) ≡ 0
+unfolding bits value
+zeros_none zero = refl
+zeros_none (suc k) = value_octet 0 (replicate k 0) (lit< tt) ∙ rw (zeros_none k)
+
+-- at most eight octets, put at the front of eight zeros
+pub word_is : (f x : List ℕ) {r : ℕ} → length f ≤ 8 → ((i : ℕ) → get_or f i 0 < 256) → x ≡ f
+    → r ≡ from_le_bytes w64 (put_mid 0 (length f) (0 ∷ 0 ∷ 0 ∷ 0 ∷ 0 ∷ 0 ∷ 0 ∷ 0 ∷ []) x) → r ≡ value (bits f)
+word_is f x h o ex e =
+    let k : ℕ = 8 - length f in
+    let g : List ℕ = f ++ replicate k 0 in
+    let eg : put_mid 0 (length f) (replicate 8 0) x ≡ g = rw (ex, drop-replicate {X = ℕ} (length f) 8 0) in
+    let lg : length g ≡ 8 = length-append f (replicate k 0) ∙ omega (arith, length-replicate {A = ℕ} k 0) in
+    let og : (i : ℕ) → get_or g i 0 < 256 = octet_append f k o in
+    e ∙ ap (from_le_bytes w64) eg ∙ le_bytes_is g lg og
+    ∙ ap value (bits_append f (replicate k 0)) ∙ value_append (bits f) (bits (replicate k 0))
+    ∙ ap (λ (v : ℕ). value (bits f) + v * 2 ^ length (bits f)) (zeros_none k) ∙ omega (arith, zero-mul (2 ^ length (bits f)))
 
 -- ---- a part of a part
 
@@ -297,22 +320,25 @@ window_is s i n w h e =
 
 -- ---- octets that are stored
 
--- out with the lowest j of k octets of a word from `at` on
-abbrev pub stored : List ℕ → ℕ → ℕ → ℕ → ℕ → List ℕ
-stored out at word k j = paste out at (octets_of k (lowest 64 word)) j
+-- a part with the lowest j of k octets of a word at its front
+abbrev pub stored : List ℕ → ℕ → ℕ → ℕ → List ℕ
+stored part word k j = take j (octets_of k (lowest 64 word)) ++ drop j part
 
-module _ (out : List ℕ) (at word k j : ℕ) (room : at + k ≤ length out) where
-  pub stored_length : j ≤ k → length (stored out at word k j) ≡ length out
-  stored_length h = length-paste out at (octets_of k (lowest 64 word)) j (omega arith) (omega (arith, length_octets k (lowest 64 word)))
+pub stored_more : (part : List ℕ) (word k j : ℕ) → length part ≡ k → word < 2 ^ 64 → j < k
+    → set (stored part word k j) j (word / 256 ^ j % 256) ≡ stored part word k (j + 1)
+stored_more part word k j room fits h =
+    let bs = lowest 64 word in
+    let e : get_or (octets_of k bs) j 0 ≡ word / 256 ^ j % 256 = get_or_octets k j bs h ∙ ap (λ (x : ℕ). x / 256 ^ j % 256) (value_lowest 64 word fits) in
+    rw (add-one j, ← e) (simp zero-add at (paste-suc part 0 (octets_of k bs) j 0 (omega arith) (omega (arith, length_octets k bs))))
 
-  pub stored_more : word < 2 ^ 64 → j < k → set (stored out at word k j) (at + j) (word / 256 ^ j % 256) ≡ stored out at word k (j + 1)
-  stored_more fits h =
-      let bs = lowest 64 word in
-      let e : get_or (octets_of k bs) j 0 ≡ word / 256 ^ j % 256 = get_or_octets k j bs h ∙ ap (λ (x : ℕ). x / 256 ^ j % 256) (value_lowest 64 word fits) in
-      rw (add-one j, ← e) (paste-suc out at (octets_of k bs) j 0 (omega arith) (omega (arith, length_octets k bs)))
-
-pub stored_all : (out : List ℕ) (at word k : ℕ) → stored out at word k k ≡ take at out ++ octets_of k (lowest 64 word) ++ drop (at + k) out
-stored_all out at word k = rw (take_all k (octets_of k (lowest 64 word)) (le_of_eq (length_octets k (lowest 64 word))))
+-- all of them, in their part of out
+pub stored_all : (out part items : List ℕ) (at word k j : ℕ) → at + k ≤ length out → length part ≡ k → k ≤ j → items ≡ stored part word k j
+    → put_mid at (at + k - at) out items ≡ take at out ++ octets_of k (lowest 64 word) ++ drop (at + k) out
+stored_all out part items at word k j room lp h e =
+    let whole : items ≡ octets_of k (lowest 64 word) =
+    e ∙ rw (take_all j (octets_of k (lowest 64 word)) (omega (arith, length_octets k (lowest 64 word))), drop_of_length-le part {i = j} (omega arith), append-nil) in
+    let n : at + k - at ≡ k = omega arith in
+    rw (whole, n, drop-drop k at out) (sym (append_assoc (take at out) (octets_of k (lowest 64 word)) (drop (at + k) out)))
 
 pub rest_more : (word j : ℕ) → word / 256 ^ j / 256 ≡ word / 256 ^ (j + 1)
 rest_more word j = rw (add-one j, pow-suc 256 j) (div-div-eq-div-mul word (256 ^ j) 256)

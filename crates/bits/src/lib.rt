@@ -4,39 +4,22 @@
 ghost use Rattle.std.specs.Prelude.{◌≡◌, ◌++◌, ◌+◌, ◌*◌, ◌/◌, ◌^◌, ◌<◌, ◌≤◌, length, take, drop};
 ghost use Rattle.bits.specs.Bits.{bits, value, lowest, octets_of};
 
-fn wide(x: u8) -> u64
-    ensures { (result ≡ x) × (result < 256) }
+// Eight octets or fewer as one number, the first the lowest.
+fn word(octets: &[u8]) -> u64
+    requires { length octets.now ≤ 8 }
+    ensures { result ≡ value (bits octets.now) }
 {
-    x as u64
+    let mut eight = [0; 8];
+    eight[..octets.len()].copy_from_slice(octets);
+    u64::from_le_bytes(eight)
 }
 
-// Four octets from j on, and eight, as one number, the first the lowest. Here and below the callers keep within the slice.
-fn four(s: &[u8], j: usize) -> u64
-    requires { j + 4 ≤ length s.now }
-    ensures { (result < 4294967296) × (result ≡ value (bits (take 4 (drop j s.now)))) }
-{
-    wide(s[j]) + wide(s[j + 1]) * 256 + wide(s[j + 2]) * 65536 + wide(s[j + 3]) * 16777216
-}
-
+// Eight octets from j on. Here and below the callers keep within the slice.
 pub fn eight(s: &[u8], j: usize) -> u64
     requires { j + 8 ≤ length s.now }
     ensures { result ≡ value (bits (take 8 (drop j s.now))) }
 {
-    four(s, j) + four(s, j + 4) * 4294967296
-}
-
-// What is left from j on, fewer than eight octets.
-fn few(s: &[u8], j: usize) -> u64
-    requires { (j ≤ length s.now) × (length s.now < j + 8) }
-    ensures { result ≡ value (bits (drop j s.now)) }
-{
-    let mut k = s.len();
-    let mut w: u64 = 0;
-    while j < k {
-        k -= 1;
-        w = w * 256 + wide(s[k]);
-    }
-    w
+    word(&s[j..j + 8])
 }
 
 fn from(s: &[u8], j: usize) -> u64
@@ -44,9 +27,10 @@ fn from(s: &[u8], j: usize) -> u64
     ensures { result ≡ value (bits (take 8 (drop j s.now))) }
 {
     if s.len() - j < 8 {
-        return few(s, j);
+        word(&s[j..])
+    } else {
+        eight(s, j)
     }
-    eight(s, j)
 }
 
 // The n bits from i on as a number, the first the lowest.
@@ -66,11 +50,9 @@ pub fn pour(out: &mut [u8], at: usize, word: u64, k: usize) -> u64
     ensures stored { out.new ≡ take at out.old ++ octets_of k (lowest 64 word) ++ drop (at + k) out.old }
 {
     let mut rest = word;
-    let mut j: usize = 0;
-    while j < k {
-        out[at + j] = (rest % 256) as u8;
-        rest = rest / 256;
-        j += 1;
+    for octet in &mut out[at..at + k] {
+        *octet = (rest % 256) as u8;
+        rest /= 256;
     }
     rest
 }

@@ -1,19 +1,19 @@
 -- Many bits at once: feeding zero bits keeps xor, so that a fold is right where it is right on single bits, which antt tests.
-use Prim.Native.Nat.{ℕ, zero, suc, ◌+◌, ◌*◌, ◌/◌, ◌%◌, ◌^◌, ◌<◌, ◌≤◌}
+use Prim.Native.Nat.{ℕ, zero, suc, ◌+◌, ◌*◌, ◌/◌, ◌%◌, ◌^◌, ◌<◌}
 use mathlib.Core.Path.{◌≡◌, refl, sym, ap, ap₂, ◌∙◌}
-use mathlib.Core.List.{List, [], ◌∷◌, ◌++◌}
+use mathlib.Core.List.{List, [], ◌∷◌}
 use native.Mathlib.Nat.{mod-lt, le_refl, one-mul, zero-mul, zero-add, add-zero}
 use native.Mathlib.Numerals.{one-add}
 use native.Mathlib.Omega.{arith}
 use lib.Bits.{bit_xor, xor_shifted, xor_shr, xor_mod, xor_block, xor_comm}
 use lib.Pow.{split, pow_pos, shr_lt}
-use lib.ListN.{length, get_or, take, drop, length-drop, take-append-drop}
-use lib.Seq.{drop-drop, get_or-drop, length-take-le}
+use lib.ListN.{length, get_or, take, drop, take-append-drop}
+use lib.Seq.{take_all}
 use Rattle.octets.specs.Octets.{tab}
 use Rattle.octets.proofs.TabLaws.{agree}
 use Rattle.octets.proofs.XorLaws.{xor_odd, xor_assoc}
 use Rattle.bits.specs.Bits.{bits, value}
-use Rattle.bits.proofs.BitLaws.{value_octet, octet_take}
+use Rattle.bits.proofs.BitLaws.{value_octet}
 use Rattle.fcs.specs.Fcs.{generator, fcs_step, fcs_bits, fcs_run}
 use Rattle.fcs.proofs.ShiftLaws.{added, moved, entry_of, by_table}
 use Rattle.fcs.proofs.RunLaws.{run_append}
@@ -210,30 +210,26 @@ fed (x ∷ f) o reg =
     let v : value (bits (x ∷ f)) ≡ value (bits f) * 2 ^ 8 + x = value_octet x f (o 0) ∙ omega arith in
     ap₂ (λ (n w : ℕ). fcs_bits n reg w) e v ∙ joined 8 (8 * length f) reg x (value (bits f)) (o 0) ∙ fed f (λ i. o (suc i)) (fcs_bits 8 reg x)
 
--- what k octets from i on make of any register, as a number whose n bits are fed to it
-abbrev pub Fed : ℕ → ℕ → List ℕ → ℕ → ℕ → Type 0
-Fed n k s i w = (reg : ℕ) → fcs_bits n reg w ≡ fcs_run reg (take k (drop i s))
+-- what octets make of any register, as a number whose 64 bits are fed to it
+abbrev pub Fed : List ℕ → ℕ → Type 0
+Fed f w = (reg : ℕ) → fcs_bits 64 reg w ≡ fcs_run reg f
 
-pub fed_eight : (s : List ℕ) (i w : ℕ) → i + 8 ≤ length s → ((k : ℕ) → get_or s k 0 < 256) → w ≡ value (bits (take 8 (drop i s))) → Fed 64 8 s i w
-fed_eight s i w h o e reg =
-    let f : List ℕ = take 8 (drop i s) in
-    let n : length f ≡ 8 = length-take-le 8 (drop i s) (omega (arith, length-drop i s)) in
-    let octet : (k : ℕ) → get_or f k 0 < 256 = octet_take 8 (drop i s) (λ k. rw (get_or-drop i s k 0) (o (i + k))) in
-    ap (fcs_bits 64 reg) e ∙ ap (λ (m : ℕ). fcs_bits (8 * m) reg (value (bits f))) (sym n) ∙ fed f octet reg
+pub fed_eight : (f : List ℕ) (w : ℕ) → length f ≡ 8 → ((k : ℕ) → get_or f k 0 < 256) → w ≡ value (bits (take 8 f)) → Fed f w
+fed_eight f w n o e reg =
+    let whole : take 8 f ≡ f = take_all 8 f (omega arith) in
+    ap (fcs_bits 64 reg) (e ∙ ap (λ (l : List ℕ). value (bits l)) whole) ∙ ap (λ (m : ℕ). fcs_bits (8 * m) reg (value (bits f))) (sym n) ∙ fed f o reg
 
 -- the first eight: added to the preset
-pub first_eight : (s : List ℕ) (w : ℕ) → w < 18446744073709551616 → Fed 64 8 s 0 w → fcs_bits 64 (bit_xor w 65535) 0 ≡ fcs_run 65535 (take 8 s)
-first_eight s w h e = ap (λ (z : ℕ). fcs_bits 64 z 0) (xor_comm w 65535) ∙ sym (added 64 65535 w h) ∙ e 65535
+pub first_eight : (f : List ℕ) (w : ℕ) → w < 18446744073709551616 → Fed f w → fcs_bits 64 (bit_xor w 65535) 0 ≡ fcs_run 65535 f
+first_eight f w h e = ap (λ (z : ℕ). fcs_bits 64 z 0) (xor_comm w 65535) ∙ sym (added 64 65535 w h) ∙ e 65535
 
 -- the next eight: the register is folded, and they are added
-pub next_eight : (s : List ℕ) (i x f w : ℕ) → w < 18446744073709551616 → fcs_bits 64 f 0 ≡ fcs_bits 64 (fcs_bits 64 x 0) 0 → Fed 64 8 s i w
-    → fcs_bits 64 (bit_xor f w) 0 ≡ fcs_run (fcs_bits 64 x 0) (take 8 (drop i s))
-next_eight s i x f w h ef ew =
-    zeros_linear 64 f w ∙ ap (λ (z : ℕ). bit_xor z (fcs_bits 64 w 0)) ef ∙ sym (zeros_linear 64 (fcs_bits 64 x 0) w)
+pub next_eight : (f : List ℕ) (x z w : ℕ) → w < 18446744073709551616 → fcs_bits 64 z 0 ≡ fcs_bits 64 (fcs_bits 64 x 0) 0 → Fed f w
+    → fcs_bits 64 (bit_xor z w) 0 ≡ fcs_run (fcs_bits 64 x 0) f
+next_eight f x z w h ez ew =
+    zeros_linear 64 z w ∙ ap (λ (r : ℕ). bit_xor r (fcs_bits 64 w 0)) ez ∙ sym (zeros_linear 64 (fcs_bits 64 x 0) w)
     ∙ sym (added 64 (fcs_bits 64 x 0) w h) ∙ ew (fcs_bits 64 x 0)
 
 -- so eight octets less are left
-pub run_eight : (s : List ℕ) (i reg next : ℕ) → next ≡ fcs_run reg (take 8 (drop i s)) → fcs_run next (drop (i + 8) s) ≡ fcs_run reg (drop i s)
-run_eight s i reg next e =
-    ap (λ (z : ℕ). fcs_run z (drop (i + 8) s)) e ∙ sym (run_append reg (take 8 (drop i s)) (drop (i + 8) s))
-    ∙ ap (fcs_run reg) (ap (λ (l : List ℕ). take 8 (drop i s) ++ l) (sym (drop-drop 8 i s)) ∙ take-append-drop 8 (drop i s))
+pub run_eight : (s f left : List ℕ) (reg next : ℕ) → f ≡ take 8 s → left ≡ drop 8 s → next ≡ fcs_run reg f → fcs_run next left ≡ fcs_run reg s
+run_eight s f left reg next ef el e = rw (e, ef, el) (sym (run_append reg (take 8 s) (drop 8 s)) ∙ ap (fcs_run reg) (take-append-drop 8 s))

@@ -8,7 +8,7 @@ ghost use Rattle.fcs.specs.Fcs.{fcs_bits, fcs_run, fcs_of, fcs_octets, fcs_good}
 fn octet(reg: u16, o: u8) -> u16
     ensures { result ≡ fcs_bits 8 reg o }
 {
-    let k = (reg ^ (o as u16)) % 256;
+    let k = (reg ^ u16::from(o)) % 256;
     let x = (k ^ (k * 16)) % 256;
     (reg / 256) ^ ((x * 256) ^ (x * 8) ^ (x / 16))
 }
@@ -33,6 +33,7 @@ fn folded_32(a: u32) -> u32
 }
 
 // The same of 64 bits, by twice the shifts again: eight octets take one step.
+// Each width keeps its function: one over all three would ask for a trait of the operators with their laws, to save three lines.
 fn folded_64(a: u64) -> u64
     ensures { fcs_bits 64 result 0 ≡ fcs_bits 64 (fcs_bits 64 a 0) 0 }
 {
@@ -41,7 +42,7 @@ fn folded_64(a: u64) -> u64
     q ^ (q >> 20) ^ (q >> 48)
 }
 
-// As many zero bits as the register has, fed to it half by half.
+// As many zero bits as the register has, fed to it half by half. The two differ in the types of the halves, and in the rule for the low one.
 fn ended_32(a: u32) -> u16
     ensures { result ≡ fcs_bits 32 a 0 }
 {
@@ -56,24 +57,20 @@ fn ended_64(a: u64) -> u16
     ended_32(((a / 4294967296) as u32) ^ low)
 }
 
-// Eight octets from i on as one number, fed at once. Here and below the callers keep within the slice.
-fn eight(s: &[u8], i: usize) -> u64
-    requires { i + 8 ≤ length s.now }
-    ensures { (reg : ℕ) → fcs_bits 64 reg result ≡ fcs_run reg (take 8 (drop i s.now)) }
+// Eight octets as one number, fed at once.
+fn eight(octets: &[u8; 8]) -> u64
+    ensures { (reg : ℕ) → fcs_bits 64 reg result ≡ fcs_run reg octets.now }
 {
-    bits::eight(s, i)
+    bits::eight(octets, 0)
 }
 
-// The octets from `from` on, one by one.
-fn rest(s: &[u8], from: usize, before: u16) -> u16
-    requires { from ≤ length s.now }
-    ensures { result ≡ fcs_run before (drop from s.now) }
+// Octets one by one.
+fn rest(s: &[u8], before: u16) -> u16
+    ensures { result ≡ fcs_run before s.now }
 {
     let mut reg = before;
-    let mut i = from;
-    while i < s.len() {
-        reg = octet(reg, s[i]);
-        i += 1;
+    for o in s {
+        reg = octet(reg, *o);
     }
     reg
 }
@@ -81,24 +78,22 @@ fn rest(s: &[u8], from: usize, before: u16) -> u16
 pub fn fcs(s: &[u8]) -> u16
     ensures { result ≡ fcs_of s.now }
 {
-    if s.len() < 8 {
-        return 65535 - rest(s, 0, 65535);
+    let Some((first, mut left)) = s.split_first_chunk::<8>() else {
+        return 65535 - rest(s, 65535);
+    };
+    let mut reg = eight(first) ^ 65535;
+    while let Some((next, behind)) = left.split_first_chunk::<8>() {
+        reg = folded_64(reg) ^ eight(next);
+        left = behind;
     }
-    let mut reg = eight(s, 0) ^ 65535;
-    let mut i: usize = 8;
-    while 8 <= s.len() - i {
-        reg = folded_64(reg) ^ eight(s, i);
-        i += 8;
-    }
-    65535 - rest(s, i, ended_64(reg))
+    65535 - rest(left, ended_64(reg))
 }
 
 // The check of eight octets, with no loop: of a voice frame, and of every signalling frame that is taken.
-fn of_eight(s: &[u8]) -> u16
-    requires { 8 ≤ length s.now }
-    ensures { result ≡ fcs_of (take 8 s.now) }
+fn of_eight(octets: &[u8; 8]) -> u16
+    ensures { result ≡ fcs_of octets.now }
 {
-    65535 - ended_64(eight(s, 0) ^ 65535)
+    65535 - ended_64(eight(octets) ^ 65535)
 }
 
 // The check of a frame's head that is not yet in memory.
@@ -112,10 +107,11 @@ fn first(s: &[u8], n: usize) -> u16
     requires { n ≤ length s.now }
     ensures { result ≡ fcs_of (take n s.now) }
 {
-    if n == 8 {
-        return of_eight(s);
+    let part = &s[..n];
+    match <&[u8; 8]>::try_from(part) {
+        Ok(octets) => of_eight(octets),
+        Err(_) => fcs(part),
     }
-    fcs(&s[..n])
 }
 
 // Whether the last two octets of frame are the check of its first n, or of all where it has fewer.
@@ -123,11 +119,10 @@ pub fn good(frame: &[u8], n: usize) -> bool
     ensures { result ≡ fcs_good n frame.now }
 {
     let len = frame.len();
-    let low = octets::at(frame, octets::less(len, 2));
-    let high = octets::at(frame, octets::less(len, 1));
-    let part = octets::lesser(n, len);
-    let check = first(frame, part);
-    low + 256 * high == check as usize
+    let low = octets::at(frame, len.saturating_sub(2));
+    let high = octets::at(frame, len.saturating_sub(1));
+    let check = first(frame, n.min(len));
+    low + 256 * high == usize::from(check)
 }
 
 // A check at `at`, the low octet first. The node's proof and that of `seal` show the room.
@@ -135,8 +130,7 @@ pub fn put(out: &mut [u8], check: u16, at: usize)
     requires { at + 2 ≤ length out.old }
     ensures { out.new ≡ take at out.old ++ (check % 256 ∷ check / 256 ∷ []) ++ drop (at + 2) out.old }
 {
-    out[at] = (check % 256) as u8;
-    out[at + 1] = (check / 256) as u8;
+    out[at..at + 2].copy_from_slice(&check.to_le_bytes());
 }
 
 // Puts the check of the first n octets of out at `at`. The origin's proofs show the room.

@@ -6,7 +6,7 @@ use native.Mathlib.Nat.{le_refl}
 use native.Mathlib.Numerals.{add-one}
 use native.Mathlib.Omega.{arith}
 use lib.ListN.{length, get_or, take, drop, set, length-append, length-take, length-drop, drop_of_length-le}
-use lib.Seq.{take-suc, drop-cons, set_at, append_snoc, length-take-le, take-add, take_at, drop_at, take_all, drop-drop, drop-length, get_or-append-add}
+use lib.Seq.{take-suc, drop-cons, set_at, append_snoc, length-take-le, take_at, drop_at, take_all, drop-drop, drop-length, get_or-append-add}
 use borrow.Rule.Slice.PartMut.{mid_of, put_mid, Post-is}
 
 -- from a to the end
@@ -48,35 +48,5 @@ last_two x u v =
     let e₁ : length (x ++ u ∷ v ∷ []) - 1 ≡ length x + 1 = omega arith in
     (rw e₂ (get_or-append-add x (u ∷ v ∷ []) 0 0), rw e₁ (get_or-append-add x (u ∷ v ∷ []) 1 0))
 
--- a block of k octets of s from n on, moved to its place in out
-pub moved_block : (s O x p : List ℕ) (n k : ℕ) → n + k ≤ length s → x ≡ take n s ++ drop n O → n ≤ length s
-    → p ≡ take k (drop n s) ++ drop k (mid_of n (length x - n) x) → put_mid n (length x - n) x p ≡ take (n + k) s ++ drop (n + k) O
-moved_block s O x p n k h ex hn ep =
-    grown (take n s) (take k (drop n s)) O x p n k (length-take-le n s hn) (length-take-le k (drop n s) (omega (arith, length-drop n s))) ex ep
-    ∙ ap (λ (l : List ℕ). l ++ drop (n + k) O) (sym (take-add n k s))
-
--- sixteen octets of s from n on, as they come in a block of sixteen
-pub block_is : (s b q : List ℕ) (n k : ℕ) → k ≡ 16 → n + 16 ≤ length s → length b ≡ 16
-    → q ≡ take k (drop n s) ++ drop (length (take k (drop n s))) b → q ≡ take 16 (drop n s)
-block_is s b q n k ek h hb eq =
-    eq ∙ rw (ek, length-take-le 16 (drop n s) (omega (arith, length-drop n s)), drop_of_length-le b {i = 16} (omega arith), append-nil)
-
-pub block_length : (s q : List ℕ) (n : ℕ) → n + 16 ≤ length s → q ≡ take 16 (drop n s) → length q ≡ 16
-block_length s q n h eq = ap length eq ∙ length-take-le 16 (drop n s) (omega (arith, length-drop n s))
-
 pub tail_length : (a : ℕ) (xs : List ℕ) → length (mid_of a (length xs - a) xs) ≡ length xs - a
 tail_length a xs = ap length (tail_of a xs) ∙ length-drop a xs
-
--- the block put in its place
-pub moved_sixteen : (s O x p q : List ℕ) (n : ℕ) → n + 16 ≤ length s → x ≡ take n s ++ drop n O → q ≡ take 16 (drop n s)
-    → p ≡ q ++ drop (length q) (mid_of n (length x - n) x) → put_mid n (length x - n) x p ≡ take (n + 16) s ++ drop (n + 16) O
-moved_sixteen s O x p q n h ex eq ep =
-    moved_block s O x p n 16 h ex (omega arith) (ep ∙ ap (λ (k : ℕ). q ++ drop k (mid_of n (length x - n) x)) (block_length s q n h eq) ∙ ap (λ (l : List ℕ). l ++ drop 16 (mid_of n (length x - n) x)) eq)
-
--- and what is left of s
-pub moved_rest : (s O x p : List ℕ) (n : ℕ) → n ≤ length s → x ≡ take n s ++ drop n O
-    → p ≡ mid_of n (length s - n) s ++ drop (length (mid_of n (length s - n) s)) (mid_of n (length x - n) x) → put_mid n (length x - n) x p ≡ s ++ drop (length s) O
-moved_rest s O x p n h ex ep =
-    let e : n + (length s - n) ≡ length s = omega arith in
-    moved_block s O x p n (length s - n) (omega arith) ex h (ep ∙ ap (λ (k : ℕ). mid_of n (length s - n) s ++ drop k (mid_of n (length x - n) x)) (tail_length n s))
-    ∙ rw (e, take_all (length s) s (le_refl (length s)))

@@ -10,6 +10,7 @@ use lib.Dec.{ltb}
 use lib.ListN.{length, take, drop, get_or, length-drop, take-append-drop}
 use lib.Seq.{take-suc, take_all, get_or-drop, take-append-le, take-append-add, take-take}
 use borrow.Author.Tests.{ltb-true, ltb-false, lt-ltb, le-ltb}
+use Rattle.std.specs.Int.{from_bool}
 use Rattle.ring.specs.Ring.{turned, sum}
 
 pub sum_append : (xs ys : List ℕ) → sum (xs ++ ys) ≡ sum xs + sum ys
@@ -119,6 +120,10 @@ module _ (first count : ℕ) (ls : List ℕ) (all : length ls ≡ 32) (slot : fi
         let q : min 32 (first + count - 32) ≡ 0 = omega arith in
         let r : take count (drop first ls ++ take first ls) ≡ take count (drop first ls) = take-append-le count (drop first ls) (take first ls) (omega (arith, ld)) in
         rw (p, q, r) (omega arith)
+
+pub one_of : (b : Bool) → from_bool b ≡ cond b 1 0
+one_of true = refl
+one_of false = refl
 
 -- an octet that counts or not is an octet still
 pub weighed : (l r : ℕ) (b : Bool) → l < 256 → r ≡ cond b 1 0 → l * r ≤ 255

@@ -1,11 +1,9 @@
 // Rings: octets laid into a lent store from a place on, round its end, and read back; and the slots in use of 32, added.
 #![tactic(auto)]
 
-ghost use Rattle.std.specs.Prelude.{◌≡◌, cond, ◌+◌, ◌<◌, ◌≤◌, ◌^◌, length, take};
+ghost use Rattle.std.specs.Prelude.{◌≡◌, ◌+◌, ◌<◌, ◌≤◌, ◌^◌, length, take};
 ghost use Rattle.ring.specs.Ring.{place_after, turned, laid, used, sum};
 ghost use Rattle.ring.specs.Parts.{Slots};
-
-use octets::lesser;
 
 // The place `ahead` places after `at`, of n. What stands in a record has been judged before it comes here.
 pub fn place_after(at: u32, ahead: u32, n: u32) -> u32
@@ -21,10 +19,9 @@ pub fn lay(store: &mut [u8], at: usize, octets: &[u8])
     requires { (at ≤ length store.old) × (length octets.now ≤ length store.old) }
     ensures { store.new ≡ laid at octets.now store.old }
 {
-    let m = octets.len();
-    let k = lesser(m, store.len() - at);
-    octets::copy(&octets[0..k], &mut store[at..]);
-    octets::copy(&octets[k..m], store);
+    let (front, back) = octets.split_at(octets.len().min(store.len() - at));
+    octets::copy(front, &mut store[at..]);
+    octets::copy(back, store);
 }
 
 // The n octets from `at` on, round the end, at the front of 255. `room` has judged the place and the length.
@@ -32,30 +29,23 @@ pub fn gather(store: &[u8], at: usize, n: usize) -> [u8; 255]
     requires { (at ≤ length store.now) × (n ≤ length store.now) × (n < 256) }
     ensures { (take n result ≡ take n (turned at store.now)) × (length result ≡ 255) }
 {
-    let mut part = [0u8; 255];
-    let k = lesser(n, store.len() - at);
+    let mut part = [0; 255];
+    let k = n.min(store.len() - at);
     octets::copy(&store[at..at + k], &mut part);
-    octets::copy(&store[0..n - k], &mut part[k..]);
+    octets::copy(&store[..n - k], &mut part[k..]);
     part
 }
 
-fn one_if(holds: bool) -> u32
-    ensures { result ≡ cond holds 1 0 }
-{
-    if holds { 1 } else { 0 }
-}
-
-// The slots in use, added. All 32 are looked at, however many are in use, and no branch depends on them. `room` has judged the record.
+// The slots in use, added. All 32 are looked at, however many are in use, and no branch depends on them: a place of 32 bits, which `enumerate` does not
+// give, makes each test a mask. `room` has judged the record.
 pub fn sum_used(slots: &[u32], first: u32, count: u32) -> u32
     requires { Slots slots.now × (first < 32) × (count ≤ 32) }
     ensures { (result ≡ sum (used first count slots.now)) × (result < 8192) }
 {
-    let mut added: u32 = 0;
-    let mut i: u32 = 0;
-    while i < 32 {
-        let counts = one_if((i + 32 - first) % 32 < count);
+    let mut added = 0;
+    for i in 0..32 {
+        let counts = u32::from((i + 32 - first) % 32 < count);
         added += slots[i as usize] * counts;
-        i += 1;
     }
     added
 }

@@ -1,5 +1,5 @@
 -- What a level gives back of a frame, and the totals one by one.
-use Rattle.std.proofs.Common.{◌≡◌, ℕ, zero, suc, ◌+◌, ◌-◌, ◌*◌, ◌%◌, ◌^◌, ◌<◌, ◌≤◌, min, Bool, true, false, cond, ◌||◌, ltb, List, [], ◌∷◌, length, get_or, set, sym, refl, ap, ◌∙◌, ap₂, arith, ltb-false, le-ltb}
+use Rattle.std.proofs.Common.{◌≡◌, ℕ, zero, suc, ◌-◌, ◌*◌, ◌<◌, ◌≤◌, min, Bool, true, false, cond, ◌||◌, ltb, List, [], ◌∷◌, length, get_or, set, sym, refl, ap, ◌∙◌, ap₂, arith, ltb-false, le-ltb}
 use Rattle.octets.proofs.BoolLaws.{or_false}
 use Rattle.frame.specs.Fields.{is_voice, field_c}
 use Rattle.onward.specs.Onward.{dropped}
@@ -64,12 +64,6 @@ droppable_few f = go (is_voice f) where
   go true = omega arith
   go false = omega arith
 
--- as the code has it
-pub droppable_by : (f : List ℕ) (v : Bool) (c r : ℕ) → v ≡ is_voice f → c ≡ field_c f → r ≡ cond v c 0 → (r ≡ droppable f) × (r < 4)
-droppable_by f v c r ev ec er =
-    let e : r ≡ droppable f = er ∙ ap₂ (λ (t : Bool) (x : ℕ). cond t x 0) ev ec in
-    (e, rw e (droppable_few f))
-
 given : (level blocks x : ℕ) (f : List ℕ) → blocks ≡ droppable f → x ≡ 16 * min blocks level → x ≡ gives level f
 given level blocks x f eb ex = ex ∙ ap (λ (k : ℕ). 16 * min k level) eb ∙ sym (gives_is level f)
 
@@ -84,15 +78,25 @@ all_levels (x ∷ y ∷ []) h = absurd (omega arith)
 all_levels (x ∷ y ∷ z ∷ []) h = refl
 all_levels (x ∷ y ∷ z ∷ w ∷ ts) h = absurd (omega arith)
 
+-- where those before it are set, a total is still what it was
+pub still : (ts : List ℕ) (a b : ℕ) → length ts ≡ 3 → (get_or (set ts 0 a) 1 0 ≡ total ts 2) × (get_or (set (set ts 0 a) 1 b) 2 0 ≡ total ts 3)
+still [] a b h = absurd (omega arith)
+still (x ∷ []) a b h = absurd (omega arith)
+still (x ∷ y ∷ []) a b h = absurd (omega arith)
+still (x ∷ y ∷ z ∷ []) a b h = (refl, refl)
+still (x ∷ y ∷ z ∷ w ∷ ts) a b h = absurd (omega arith)
+
 -- each total moved by what its level gives back, one after another
 pub moved : (by : ℕ → ℕ → ℕ) (f ts : List ℕ) (blocks x y z a b c : ℕ) → length ts ≡ 3
     → x ≡ 16 * min blocks 1 → y ≡ 16 * min blocks 2 → z ≡ 16 * min blocks 3
-    → a ≡ by (total ts 1) x → b ≡ by (total ts 2) y → c ≡ by (total ts 3) z
+    → a ≡ by (get_or ts 0 0) x → b ≡ by (get_or (set ts 0 a) 1 0) y → c ≡ by (get_or (set (set ts 0 a) 1 b) 2 0) z
     → blocks ≡ droppable f → set (set (set ts 0 a) 1 b) 2 c ≡ levels (λ level. by (total ts level) (gives level f))
 moved by f ts blocks x y z a b c h ex ey ez ea eb ec e =
+    let s = still ts a b h in
     all_set ts a b c h
     ∙ each_level (total (a ∷ b ∷ c ∷ [])) (λ level. by (total ts level) (gives level f))
-    (ea ∙ ap (by (total ts 1)) (given 1 blocks x f e ex)) (eb ∙ ap (by (total ts 2)) (given 2 blocks y f e ey)) (ec ∙ ap (by (total ts 3)) (given 3 blocks z f e ez))
+    (ea ∙ ap (by (total ts 1)) (given 1 blocks x f e ex))
+    (eb ∙ ap₂ by s.0 (given 2 blocks y f e ey)) (ec ∙ ap₂ by s.1 (given 3 blocks z f e ez))
 
 -- a frame without blocks to drop lowers nothing
 pub lowered_none : (f ts : List ℕ) → length ts ≡ 3 → droppable f ≡ 0 → lowered f ts ≡ ts
@@ -100,14 +104,6 @@ unfolding lowered
 lowered_none f ts h e = each_level (λ level. total ts level - gives level f) (total ts) (same 1) (same 2) (same 3) ∙ all_levels ts h where
   same : (level : ℕ) → total ts level - gives level f ≡ total ts level
   same level = let n : gives level f ≡ 0 = gives_is level f ∙ ap (λ (k : ℕ). 16 * min k level) e ∙ omega arith in rw n (omega arith)
-
--- the total of level 0, and of one that is not
-pub total_none : (ts : List ℕ) (level : ℕ) → level ≡ 0 → 0 ≡ total ts level
-total_none ts level e = rw e refl
-
-pub total_at : (ts : List ℕ) (level : ℕ) → (level ≡ 0 → ⊥) → get_or ts (level - 1) 0 ≡ total ts level
-total_at ts zero h = absurd (h refl)
-total_at ts (suc k) h = let e : suc k - 1 ≡ k = omega arith in rw e refl
 
 -- what holds of each level holds of each total
 pub totals_at_most : (g h : ℕ → ℕ) → ((level : ℕ) → g level ≤ h level) → (level : ℕ) → total (levels g) level ≤ h level
@@ -130,13 +126,3 @@ none_overfull g le = above_none 1536 (levels g) (λ i. totals_at_most g (λ _. 1
 pub total_most : (n : ℕ) (ts : List ℕ) → any_above n ts ≡ false → (level : ℕ) → total ts level ≤ n
 total_most n ts h zero = omega arith
 total_most n ts h (suc level) = none_above n ts h level
-
--- the octets that the code works out, and a total that stops at 0
-pub given_by : (blocks level n : ℕ) → n ≡ min blocks level → blocks < 4 → (16 * n ≡ 16 * min blocks level) × (16 * n ≤ 48)
-given_by blocks level n e few = (ap (λ (k : ℕ). 16 * k) e, omega arith)
-
-pub stops : (total octets : ℕ) → total < octets → 0 ≡ total - octets
-stops total octets less = omega arith
-
-pub falls : (total octets left : ℕ) → (left + octets) % 2 ^ 32 ≡ total → octets ≤ total → left < 2 ^ 32 → left ≡ total - octets
-falls total octets left e enough fits = omega arith

@@ -5,6 +5,7 @@ use mathlib.Core.Bool.{Bool, true, false, cond, false≢true}
 use mathlib.Core.List.{List, [], ◌∷◌, ◌++◌, append_assoc}
 use native.Mathlib.Nat.{not-suc-le-zero, le_of_suc-le-suc, le_refl, lt_of_lt_of_le}
 use native.Mathlib.Omega.{arith}
+use mir.Val.{bool_byte}
 use lib.ListN.{length, take, drop, length-drop}
 use lib.Dec.{lit<, lit≤}
 use lib.Pow.{pow_mono}
@@ -62,6 +63,11 @@ behind_is false bs = refl
 pub put_le : (w : Bool) → cond w 1 0 ≤ 1
 put_le true = lit≤ tt
 put_le false = lit≤ tt
+
+-- a test as the number that the code adds
+pub byte_is : (w : Bool) → bool_byte w ≡ cond w 1 0
+byte_is true = refl
+byte_is false = refl
 
 pub carried_empty : (w : Bool) → carried w [] ≡ []
 carried_empty w = carried_at w [] ∙ at_end w 4

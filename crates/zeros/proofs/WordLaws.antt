@@ -3,15 +3,15 @@ use Prim.Native.Nat.{ℕ, zero, suc, ◌+◌, ◌-◌, ◌*◌, ◌/◌, ◌%◌
 use mathlib.Core.Path.{◌≡◌, refl, sym, ap, ◌∙◌}
 use mathlib.Core.Bool.{Bool, true, false, cond, ◌&&◌, beq}
 use mathlib.Core.List.{List, [], ◌∷◌}
-use native.Mathlib.Nat.{not-suc-le-zero, le_of_suc-le-suc, min-zero, mod-lt, lt_of_lt_of_le}
+use native.Mathlib.Nat.{not-suc-le-zero, le_of_eq, le_of_suc-le-suc, min-zero, mod-lt, lt_of_lt_of_le}
 use native.Mathlib.Omega.{arith}
 use lib.Bits.{bit_and, and_mask}
 use lib.Pow.{pow_pos, pow_mono, shl_exact}
 use lib.ListN.{length, take, drop, length-drop}
-use lib.Seq.{take-nil, take-take, drop-drop}
+use lib.Seq.{take_all, take-nil, take-take, drop-drop}
 use Rattle.bits.specs.Bits.{lowest, value}
 use Rattle.bits.specs.Places.{begins, until}
-use Rattle.bits.proofs.BitLaws.{value_take, value_drop, length_lowest, lowest_cons, joined_lt, shifted, drop_take}
+use Rattle.bits.proofs.BitLaws.{value_take, value_drop, value_lowest, length_lowest, lowest_cons, joined_lt, shifted, drop_take}
 use Rattle.bits.proofs.MarkLaws.{ones}
 use Rattle.bits.proofs.UntilLaws.{until_le}
 use Rattle.zeros.specs.Parts.{five_ones, Some}
@@ -129,3 +129,35 @@ module _ (w : Bool) (bs : List Bool) (sure word made n taken j : ℕ) (s : sure 
       let c : value (take rest d) ≡ word % 2 ^ rest = cut rest (omega arith) in
       let p = made_more w bs made n taken (word % 2 ^ rest) rest rest t.piece (rw c at (made_plain w d rest (omega (arith, seen)) (omega arith))) in
       record { on = omega arith; within = omega (arith, t.within); short = turn_fits.0; fits = p.fits; is = p.is }
+
+-- What the loop keeps, in its own numbers: `put` is 1 where a zero is put in. Of all bits that may be meant, those of the word show that the numbers fit.
+pub record Under (writing : Bool) (bits sure put word made n taken j : ℕ) : Type 0 where
+  pub ones : j ≡ until five_ones (lowest 64 word)
+  pub turn : (bs : List Bool) → bits ≡ value (take 48 bs) → sure ≤ length bs → Turn writing bs word made n taken
+  pub one : put ≤ 1
+  pub fits : made < 2 ^ n
+  pub short : n + (sure - taken) ≤ 57
+  pub far : taken ≤ 49
+  pub near : j ≤ 64
+  pub room : taken + j < sure → n + (j + 5 + put) ≤ 57
+
+module _ (writing : Bool) (bits sure put : ℕ) (few : sure ≤ 44) (small : bits < 2 ^ 48) (is : put ≡ cond writing 1 0) where
+  pub under : (word made n taken j : ℕ) → j ≡ until five_ones (lowest 64 word)
+      → ((bs : List Bool) → bits ≡ value (take 48 bs) → sure ≤ length bs → Turn writing bs word made n taken)
+      → Under writing bits sure put word made n taken j
+  under word made n taken j e turn =
+      let own : List Bool = lowest 48 bits in
+      let l : length own ≡ 48 = length_lowest 48 bits in
+      let enough : sure ≤ length own = omega arith in
+      let t : Turn writing own word made n taken = turn own (sym (ap value (take_all 48 own (le_of_eq l)) ∙ value_lowest 48 bits small)) enough in
+      let f = turn_fits writing own sure word made n taken j few enough t e in
+      record {
+        ones = e;
+        turn = turn;
+        one = omega (arith, put_le writing);
+        fits = t.piece.fits;
+        short = f.0;
+        far = f.1;
+        near = f.2;
+        room = λ h. omega (arith, turn_room writing own sure word made n taken j few enough t e h);
+      }

@@ -2,31 +2,29 @@
 use Prim.Native.Nat.{ℕ, ◌-◌}
 use mathlib.Core.Path.{ap, ◌∙◌}
 use native.Mathlib.Omega.{arith}
-use lib.ListN.{drop}
 use Rattle.fcs.specs.Fcs.{fcs_bits, fcs_run, fcs_of}
 use Rattle.fcs.proofs.FoldLaws.{first_eight, next_eight, run_eight}
 use Rattle.fcs.proofs.fcs.Goals as goal
 
-pub returns-then-s-lt8 : goal.returns-then-s-lt8
+pub returns-in_default : goal.returns-in_default
 unfolding fcs_of
-returns-then-s-lt8 c = ap (λ (x : ℕ). 65535 - x) c.rest.ensures
+returns-in_default c = ap (λ (x : ℕ). 65535 - x) c.rest.ensures
 
-pub loop-i-init : goal.loop-i-init
-loop-i-init c =
-    let s = c.args.s.now in
-    (omega arith, run_eight s 0 65535 _ (first_eight s c.eight-reg.result (omega arith) c.eight-reg.ensures))
+pub loop-next-init : goal.loop-next-init
+loop-next-init c =
+    let a = c.in-Some in
+    run_eight c.args.s.now a.first.now a.left.now 65535 _ a.ensures.cases.0 a.ensures.cases.1 (first_eight a.first.now c.eight-reg.result (omega arith) c.eight-reg.ensures)
 
-pub loop-i-preserved : goal.loop-i-preserved
-loop-i-preserved c =
-    let fold = c in
-    let at = fold.loop-i in
-    let s = fold.args.s.now in
-    (omega arith, run_eight s at.i (fcs_bits 64 at.reg 0) _ (next_eight s at.i at.reg fold.folded_64.result c.eight.result (omega arith) fold.folded_64.ensures c.eight.ensures) ∙ at.invariant.1)
+pub loop-next-preserved : goal.loop-next-preserved
+loop-next-preserved c =
+    let l = c.loop-next in
+    let a = c.in-Some-split_first_chunk in
+    run_eight l.left.now a.next.now a.behind.now (fcs_bits 64 l.reg 0) _ a.ensures.cases.0 a.ensures.cases.1
+    (next_eight a.next.now l.reg c.folded_64.result c.eight.result (omega arith) c.folded_64.ensures c.eight.ensures)
+    ∙ l.invariant
 
 pub returns : goal.returns
 unfolding fcs_of
 returns c =
-    let end = c in
-    let at = end.loop-i in
-    let s = end.args.s.now in
-    ap (λ (x : ℕ). 65535 - x) (c.rest-2.ensures ∙ ap (λ (z : ℕ). fcs_run z (drop at.i s)) end.ended_64.ensures ∙ at.invariant.1)
+    let l = c.loop-next in
+    ap (λ (x : ℕ). 65535 - x) (c.rest-2.ensures ∙ ap (λ (z : ℕ). fcs_run z l.left.now) c.ended_64.ensures ∙ l.invariant)

@@ -1,11 +1,9 @@
 -- `fcs::good` meets its contract.
+use mathlib.Core.Path.{◌∙◌}
 use Rattle.fcs.proofs.SealLaws.{tested}
 use Rattle.fcs.proofs.good.Goals as goal
 
 pub returns : goal.returns
 returns c =
-    let part = c in
-    let high = part in
-    let low = high in
-    let a = low.args in
-    tested a.n a.frame.now low.less.ensures low.at-low.ensures.0 high.less-2.ensures high.at-high.ensures.0 part.lesser-part.ensures c.first-check.ensures
+    let a = c.args in
+    tested a.n a.frame.now c.saturating_sub.ensures c.at-low.ensures.0 c.saturating_sub-2.ensures c.at-high.ensures.0 c.min.ensures (c.from.ensures ∙ c.first-check.ensures)

@@ -5,4 +5,4 @@ use Rattle.fcs.proofs.octet.Goals as goal
 
 pub returns : goal.returns
 unfolding shifts
-returns c = by_shifts c.args.reg c.args.o (omega arith)
+returns c = rw c.from.ensures (by_shifts c.args.reg c.args.o (omega arith))

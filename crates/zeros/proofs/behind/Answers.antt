@@ -1,14 +1,8 @@
 -- `zeros::behind` meets its contract.
 use mathlib.Core.Path.{ap}
 use Prim.Native.Nat.{ℕ, ◌+◌}
-use native.Mathlib.Omega.{arith}
-use lib.Pow.{pow_pos}
-use Rattle.bits.proofs.BitLaws.{shifted}
 use Rattle.zeros.proofs.WordLaws.{behind_is, behind_fits}
 use Rattle.zeros.proofs.behind.Goals as goal
-
-pub overflow_sub-result : goal.overflow_sub-result
-overflow_sub-result c = let k = c.args.k in rw (shifted k (omega arith)) (pow_pos k)
 
 pub overflow_add-result : goal.overflow_add-result
 overflow_add-result c =
