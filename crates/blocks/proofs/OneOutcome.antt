@@ -4,6 +4,7 @@ use contract.Lifetimes.{Lfts}
 use borrow.Fn.Kinds.{Dens, ended_of}
 use denote.Triple.Clauses.{AtExit}
 use Rattle.octets.proofs.BoolLaws.{one_outcome}
+use Rattle.refusals.proofs.RefusalLaws.{judged_one}
 use Rattle.blocks.proofs.pack.Reads as pack
 use Rattle.blocks.proofs.pack.Kinds as pack-kinds
 use Rattle.blocks.proofs.read_blocks.Reads as read-blocks
@@ -23,4 +24,4 @@ pub samples_fit_one : (κs : Lfts 1) (a r r' s s' : _) → samples-fit.Post κs 
 samples_fit_one κs a r r' s s' p q = one_outcome p q
 
 pub refusal_11_one : (κs : Lfts 1) (a r r' s s' : _) → refusal-11.Post κs a r s → refusal-11.Post κs a r' s' → r ≡ r'
-refusal_11_one κs a r r' s s' p q = one_outcome p q
+refusal_11_one κs a r r' s s' p q = judged_one r r' (one_outcome p q)

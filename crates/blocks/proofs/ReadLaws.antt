@@ -1,17 +1,16 @@
 -- Reading: a block added to its plane, and what the planes hold after each: the samples read so far, turned over. Assumes nothing.
 use mathlib.Core.Path.{◌≡◌, refl, sym, ap, ap₂, ◌∙◌, subst}
 use mathlib.Core.Logic.{◌≢◌, ⊎_elim}
-use mathlib.Core.List.{List, [], ◌∷◌, ◌++◌, append_assoc, append-nil}
+use mathlib.Core.List.{List, ◌++◌}
 use Prim.Native.Nat.{ℕ, suc, ◌+◌, ◌-◌, ◌*◌, ◌/◌, ◌%◌, ◌^◌, ◌≤◌, ◌<◌}
 use native.Mathlib.Nat.{add-zero, div-one, zero-div, le_of_lt, mod-lt, eq-zero-or-pos}
-use native.Mathlib.Numerals.{add-one}
 use native.Mathlib.Omega.{arith}
 use lib.Dec.{lit<}
 use lib.Pow.{pow_pos, pow_mono}
 use mir.Syntax.{w8}
 use mir.Val.{Fits}
-use lib.ListN.{length, get_or, set, take, drop, length-append, length-drop, take-append-drop, get_or-append, replicate, get_or-replicate}
-use lib.Seq.{take-suc, drop-cons, set_at, append_snoc, get_or_at, get_or-take, get_or-drop, get_or-append-add, ext_get_or, length-take-le}
+use lib.ListN.{length, get_or, take, drop, length-append, length-drop, get_or-append, replicate, get_or-replicate}
+use lib.Seq.{get_or-take, get_or-drop, get_or-append-add, ext_get_or, length-take-le}
 use Rattle.octets.specs.Octets.{tab}
 use Rattle.octets.proofs.TabLaws.{get_or_tab, length_tab}
 use Rattle.blocks.specs.Blocks.{bit_of, weight, sample, samples}
@@ -19,29 +18,9 @@ use Rattle.blocks.proofs.BitLaws.{bit_lt, bit_up, bit_down, bit_below, bits_all}
 use Rattle.blocks.proofs.BlocksLaws.{bit_in, next_block, zero_filled, sample_room}
 use Rattle.blocks.proofs.PlaneLaws.{bit_at, by_cases, Turned, turned_at}
 
--- a loop that adds the octets of a block to a row of zeros: before the first, the octet that it reads next, and after a turn
-module _ (xs part : List ℕ) (at : ℕ) where
-  abbrev pub row_to : ℕ → List ℕ
-  row_to j = take at xs ++ take j part ++ drop (at + j) xs
-
-  pub row_none : row_to 0 ≡ xs
-  row_none = rw (append-nil, add-zero) (take-append-drop at xs)
-
-  module _ (j : ℕ) (h : at + j < length xs) (k : j < length part) where
-    abbrev begun : List ℕ
-    begun = take at xs ++ take j part
-
-    length_begun : length begun ≡ at + j
-    length_begun = length-append (take at xs) (take j part) ∙ omega (arith, length-take-le at xs (omega arith), length-take-le j part (omega arith))
-
-    pub row_next : get_or (row_to j) (at + j) 0 ≡ get_or xs (at + j) 0
-    row_next = rw (drop-cons xs (at + j) 0) (get_or_at begun (get_or xs (at + j) 0) (drop (suc (at + j)) xs) 0 (at + j) length_begun)
-
-    pub row_more : set (row_to j) (at + j) (get_or part j 0) ≡ row_to (j + 1)
-    row_more =
-        let e : at + suc j ≡ suc (at + j) = omega arith in
-        rw (drop-cons xs (at + j) 0, set_at begun (get_or xs (at + j) 0) (drop (suc (at + j)) xs) (get_or part j 0) (at + j) length_begun, add-one j, e, take-suc part j 0)
-        (sym (append_snoc begun (get_or part j 0) (drop (suc (at + j)) xs)) ∙ rw (append_assoc (take at xs) (take j part) (get_or part j 0 ∷ [])))
+-- a row with the octets of a block in it
+abbrev pub row_to : List ℕ → List ℕ → ℕ → ℕ → List ℕ
+row_to xs part at j = take at xs ++ take j part ++ drop (at + j) xs
 
 pub row_put : (xs part lent last : List ℕ) (w : ℕ) → last ≡ row_to xs lent (16 * w) 16 → lent ≡ part → last ≡ row_to xs part (16 * w) 16
 row_put xs part lent last w e p = e ∙ ap (λ (l : List ℕ). row_to xs l (16 * w) 16) p

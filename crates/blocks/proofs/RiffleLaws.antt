@@ -1,16 +1,15 @@
 -- Octets that change places: a riffle of 128 octets, a riffle of eight rows of sixteen, and where several riffles take each octet from. Assumes nothing.
-use mathlib.Core.Path.{◌≡◌, refl, sym, ap, ap₂, ◌∙◌}
+use mathlib.Core.Path.{◌≡◌, refl, sym, ap, ◌∙◌}
 use mathlib.Core.List.{List, [], ◌∷◌, ◌++◌, append_assoc, append-nil}
 use Prim.Native.Nat.{ℕ, zero, suc, ◌+◌, ◌-◌, ◌*◌, ◌/◌, ◌%◌, ◌≤◌, ◌<◌}
 use native.Mathlib.Nat.{add-zero}
 use native.Mathlib.Numerals.{add-one}
 use native.Mathlib.Omega.{arith}
 use lib.ListN.{length, get_or, set, take, drop, length-drop, drop_of_length-le}
-use lib.Seq.{ext_get_or, get_or-take, get_or-drop, length-take-le}
-use borrow.Rule.Slice.PartMut.{mid_of, put_mid}
+use lib.Seq.{ext_get_or, get_or-take, get_or-drop, length-take-le, take_at, drop_at, drop-drop}
+use borrow.Rule.Slice.PartMut.{put_mid, Post-is}
 use Rattle.octets.specs.Octets.{tab}
 use Rattle.octets.proofs.TabLaws.{agree, tab_more, get_or_tab, length_tab, tab_ext}
-use Rattle.octets.proofs.PartLaws.{grown}
 
 -- where a riffle takes octet i from, and a riffle of rows
 abbrev pub riffled : ℕ → ℕ
@@ -55,14 +54,9 @@ part_tab xs a n h =
     (λ i k. let m : i < n = omega arith in
     get_or-take n (drop a xs) i 0 m ∙ get_or-drop a xs i 0 ∙ sym (get_or_tab (λ i. get_or xs (a + i) 0) n i 0 m))
 
--- the sixteen octets from `at` on, and a copy of them at the front of another list
+-- the sixteen octets from `at` on
 pub sixteen : (xs : List ℕ) (at : ℕ) → take (at + 16 - at) (drop at xs) ≡ take 16 (drop at xs)
 sixteen xs at = let e : at + 16 - at ≡ 16 = omega arith in ap (λ (n : ℕ). take n (drop at xs)) e
-
-pub sixteen_copied : (xs part s last : List ℕ) (at : ℕ) → at + 16 ≤ length xs → s ≡ take (at + 16 - at) (drop at xs) → last ≡ s ++ drop (length s) part → last ≡ take 16 (drop at xs) ++ drop 16 part
-sixteen_copied xs part s last at h es el =
-    let e : s ≡ take 16 (drop at xs) = es ∙ sixteen xs at in
-    el ∙ ap₂ (λ (l : List ℕ) (n : ℕ). l ++ drop n part) e (ap length e ∙ part_length xs at 16 h)
 
 row_at : (row i : ℕ) → i < 16 → 16 * (row / 2 + row % 2 * 4) + i ≡ rows_riffled (16 * row + i)
 row_at row i h =
@@ -71,20 +65,21 @@ row_at row i h =
     let g : (16 * row + i) % 16 ≡ i = omega arith in
     rw (e, f, g)
 
--- a turn of the loop that riffles rows: the next row is copied into the part from its place on
-pub rows_more : (xs O to s p : List ℕ) (row : ℕ) → length xs ≡ 128 → length to ≡ 128 → row < 8 → let f : ℕ → ℕ = taken rows_riffled xs in
-    to ≡ tab f (16 * row) ++ drop (16 * row) O → s ≡ take 16 (drop (16 * (row / 2 + row % 2 * 4)) xs) → p ≡ s ++ drop (length s) (mid_of (16 * row) (128 - 16 * row) to)
-    → put_mid (16 * row) (128 - 16 * row) to p ≡ tab f (16 * (row + 1)) ++ drop (16 * (row + 1)) O
-rows_more xs O to s p row hx ht h et es ep =
+-- a turn of the loop that riffles rows: the next row is copied to its place
+pub rows_more : (xs O to p : List ℕ) (row : ℕ) → length xs ≡ 128 → length to ≡ 128 → row < 8 → let f : ℕ → ℕ = taken rows_riffled xs in
+    let a : ℕ = 16 * (row / 2 + row % 2 * 4) in
+    to ≡ tab f (16 * row) ++ drop (16 * row) O → p ≡ take (a + 16 - a) (drop a xs)
+    → put_mid (16 * row) (16 * row + 16 - 16 * row) to p ≡ tab f (16 * (row + 1)) ++ drop (16 * (row + 1)) O
+rows_more xs O to p row hx ht h et ep =
     let f : ℕ → ℕ = taken rows_riffled xs in
     let a : ℕ = 16 * (row / 2 + row % 2 * 4) in
     let n : ℕ = 16 * row in
-    let l : length s ≡ 16 = ap length es ∙ part_length xs a 16 (omega arith) in
-    let row_is : s ≡ tab (λ i. f (n + i)) 16 = es ∙ part_tab xs a 16 (omega arith) ∙ tab_ext (λ i. get_or xs (a + i) 0) (λ i. f (n + i)) 16 (λ i k. ap (λ (m : ℕ). get_or xs m 0) (row_at row i k)) in
+    let row_is : p ≡ tab (λ i. f (n + i)) 16 = ep ∙ sixteen xs a ∙ part_tab xs a 16 (omega arith) ∙ tab_ext (λ i. get_or xs (a + i) 0) (λ i. f (n + i)) 16 (λ i k. ap (λ (m : ℕ). get_or xs m 0) (row_at row i k)) in
+    let front : take n to ≡ tab f n = ap (take n) et ∙ take_at (tab f n) (drop n O) n (length_tab f n) in
+    let rest : drop n to ≡ drop n O = ap (drop n) et ∙ drop_at (tab f n) (drop n O) n (length_tab f n) in
+    let back : drop (n + 16) to ≡ drop (n + 16) O = sym (drop-drop 16 n to) ∙ ap (drop 16) rest ∙ drop-drop 16 n O in
     let e : 16 * (row + 1) ≡ n + 16 = omega arith in
-    ap (λ (m : ℕ). put_mid n (m - n) to p) (sym ht)
-    ∙ grown (tab f n) s O to p n 16 (length_tab f n) l et (ep ∙ ap (λ (m : ℕ). s ++ drop m (mid_of n (128 - n) to)) l ∙ ap (λ (m : ℕ). s ++ drop 16 (mid_of n (m - n) to)) (sym ht))
-    ∙ rw (e, row_is, tab_add f n 16)
+    rw (Post-is n (n + 16) to (omega arith), front, back, row_is, e, ← tab_add f n 16, append_assoc)
 
 -- ---- where several riffles take an octet from, computed for all 128
 

@@ -1,20 +1,17 @@
 -- What holds of every coding type: of the 32 rows by a list that antt computes, and above them since no type there has a row.
-use Prim.Native.Nat.{ℕ, zero, suc, ◌+◌, ◌*◌, ◌%◌, ◌^◌, ◌≤◌, ◌<◌}
+use Prim.Native.Nat.{ℕ, ◌≤◌, ◌<◌}
 use mathlib.Core.Path.{◌≡◌, refl, ap, sym, ◌∙◌}
 use mathlib.Core.Bool.{Bool, true, false, ◌&&◌, ◌||◌}
 use mathlib.Core.List.{List}
 use native.Mathlib.Omega.{arith}
-use lib.Dec.{lit<, leb, ltb, eqb}
-use lib.Pow.{pow-add, pow_mono, shl_exact}
-use native.Mathlib.Nat.{mul-le-mul_right, suc-mul, mul_comm, lt_of_lt_of_le}
-use native.Mathlib.Numerals.{add-one}
-use lib.ListN.{get_or}
-use borrow.Author.Tests.{lt-ltb, lt-leb, ne_eqb, leb-true, ltb-true, ltb-false}
+use lib.Dec.{leb, ltb, eqb}
+use lib.ListN.{length, get_or, get_or-eq_default}
+use borrow.Author.Tests.{lt-leb, ne_eqb, leb-true, ltb-true, ltb-false}
 use Rattle.octets.specs.Octets.{tab}
 use Rattle.octets.proofs.TabLaws.{agree}
 use Rattle.octets.proofs.BoolLaws.{and_true}
 use Rattle.coding.specs.Coding.{row, sample_bits, droppable_bits, reserved}
-use Rattle.coding.specs.Digits.{Digits, digits_of, digit_at}
+use Rattle.coding.specs.Tables.{entry}
 
 pub above_31 : (t : ℕ) → 32 ≤ t → row t ≡ (0, 0, 0)
 unfolding row
@@ -29,14 +26,6 @@ above_31 t h =
       ne_eqb t 24 (λ e. omega arith),
     )
 
-pub past : (low high t : ℕ) → 32 ≤ t → digit_at low high t ≡ 0
-unfolding digit_at
-past low high t h = rw (lt-ltb 31 t (omega arith))
-
--- x below 16 and y below m: what they make as digits
-small : (x y m : ℕ) → x < 16 → y < m → y + x * m < m * 16
-small x y m h l = omega (arith, mul-le-mul_right {m = suc x} {n = 16} m h, suc-mul x m, mul_comm m 16)
-
 -- two functions of a type that give one list of 32, and the same above 31, are the same
 pub every_type : {A : Type 0} (f g : ℕ → A) → tab f 32 ≡ tab g 32 → ((t : ℕ) → 32 ≤ t → f t ≡ g t) → (t : ℕ) → f t ≡ g t
 every_type f g below above t = go (ltb t 32) refl
@@ -45,35 +34,13 @@ every_type f g below above t = go (ltb t 32) refl
     go true e = agree f g 32 below t (ltb-true t 32 e)
     go false e = above t (ltb-false t 32 e)
 
--- a constant table in halves that is a column of the rows gives that fact of every type
-pub column : (fact : ℕ × ℕ × ℕ → ℕ) (low high t r : ℕ) → r ≡ digit_at low high t → fact (0, 0, 0) ≡ 0
-    → tab (λ k. digit_at low high k) 32 ≡ tab (λ k. fact (row k)) 32 → r ≡ fact (row t)
-column fact low high t r entry none below =
-    entry ∙ every_type (digit_at low high) (λ k. fact (row k)) below (λ k h. past low high k h ∙ sym (ap fact (above_31 k h) ∙ none)) t
-
--- ---- digits
-
-digit_lt : (xs : List ℕ) → Digits xs → (k : ℕ) → k < 32 → get_or xs k 0 < 16
-digit_lt xs d k h = ltb-true (get_or xs k 0) 16 (agree (λ k. ltb (get_or xs k 0) 16) (λ k. true) 32 d k h)
-
-pub digits_lt : (xs : List ℕ) (from n : ℕ) → Digits xs → from + n ≤ 32 → digits_of xs from n < 2 ^ (4 * n)
-unfolding digits_of
-digits_lt xs from zero d h = lit< tt
-digits_lt xs from (suc n) d h =
-    let e : 4 * suc n ≡ 4 * n + 4 = omega arith in
-    let p : 2 ^ (4 * n + 4) ≡ 2 ^ (4 * n) * 16 = pow-add 2 (4 * n) 4 in
-    rw (e, p) (small (get_or xs (from + n) 0) (digits_of xs from n) (2 ^ (4 * n)) (digit_lt xs d (from + n) (omega arith)) (digits_lt xs from n d (omega arith)))
-
--- one digit more, as it is shifted and added
-pub digits_more : (xs : List ℕ) (from n x : ℕ) → Digits xs → from + n < 32 → n < 16 → x ≡ get_or xs (from + n) 0
-    → digits_of xs from n + x * 2 ^ (4 * n) % 2 ^ 64 ≡ digits_of xs from (n + 1)
-unfolding digits_of
-digits_more xs from n x d h l e =
-    let b : x < 2 ^ 4 = rw e (digit_lt xs d (from + n) h) in
-    rw (add-one n, shl_exact 4 (4 * n) 64 b (omega arith), e)
-
-pub digits_fit : (xs : List ℕ) (from n : ℕ) → Digits xs → from + n ≤ 32 → n ≤ 16 → digits_of xs from n < 2 ^ 64
-digits_fit xs from n d h l = lt_of_lt_of_le (digits_lt xs from n d h) (pow_mono {i = 4 * n} {j = 64} (omega arith))
+-- a table of 32 that is a column of the rows gives that fact of every type
+pub column : (fact : ℕ × ℕ × ℕ → ℕ) (table : List ℕ) (t r : ℕ) → r ≡ entry table t → length table ≡ 32 → fact (0, 0, 0) ≡ 0
+    → tab (λ k. get_or table k 0) 32 ≡ tab (λ k. fact (row k)) 32 → r ≡ fact (row t)
+unfolding entry
+column fact table t r is size none below =
+    is ∙ every_type (entry table) (λ k. fact (row k)) below
+    (λ k h. get_or-eq_default table 0 (omega arith) ∙ sym (ap fact (above_31 k h) ∙ none)) t
 
 -- S is at most 8 and D at most 3 and S; and a type that is not reserved is below 32 and keeps a block
 abbrev sound : ℕ → ℕ × ℕ × ℕ → Bool

@@ -1,3 +1,3 @@
 pub mod Coding
-pub mod Digits
 pub mod Noise
+pub mod Tables

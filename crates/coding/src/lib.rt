@@ -1,58 +1,27 @@
 // The facts that every coding type carries, from Figure 5 and Table 3, and the noise levels.
 #![tactic(auto)]
 
-ghost use Rattle.std.specs.Prelude.{◌≡◌, ◌*◌, ◌/◌, ◌%◌, ◌^◌, ◌<◌, ◌≤◌};
+ghost use Rattle.std.specs.Prelude.{◌≡◌};
+ghost use Rattle.refusals.specs.Refusals.{refusal_of};
 ghost use Rattle.coding.specs.Coding.{sample_bits, droppable_bits, reset_bit, reserved, frame_length, refusal6};
-ghost use Rattle.coding.specs.Digits.{digits_of, digit_at, Digits};
 ghost use Rattle.coding.specs.Noise.{noise_of, paper};
+ghost use Rattle.coding.specs.Tables.{entry};
 
-use octets::{less, pick, wide};
-use refusals::refuse;
+use refusals::{Refusal, refuse};
 
-// Sixteen entries of a table, a hexadecimal digit for each, the first the lowest. The compiler works such a number out
-// where the table is constant, and a look-up is then a shift: an index would copy the table first. The tables below meet
-// the requires.
-fn digits(table: &[u8; 32], from: usize) -> u64
-    requires { (from ≤ 16) × Digits table.now }
-    ensures { result ≡ digits_of table.now from 16 }
-{
-    let mut sum: u64 = 0;
-    for i in 0..16 {
-        sum = sum + (long(table[from + i]) << (4 * i));
-    }
-    sum
-}
+// The tables where a look-up reads them: a look-up in a constant copies the whole of it first.
+static SAMPLE_BITS: [u8; 32] = Coding::SAMPLE_BITS;
 
-fn long(x: u8) -> u64
-    ensures { (result ≡ x) × (result < 256) }
-{
-    x as u64
-}
+static DROPPABLE_BITS: [u8; 32] = Coding::DROPPABLE_BITS;
 
-// A table as two such numbers. Each table has a function for them: the compiler works out only what takes no argument.
-#[derive(Clone, Copy)]
-struct Halves {
-    low: u64,
-    high: u64,
-}
-
-fn digit(half: u64, t: u8) -> u8
-    ensures { result ≡ half / 2 ^ (4 * (t % 16)) % 16 }
-{
-    ((half >> (4 * (t % 16))) % 16) as u8
-}
+static RESET: [u8; 32] = Coding::RESET;
 
 // The entry for type t; 0 past the table's end.
-fn entry(h: Halves, t: u8) -> u8
-    ensures { result ≡ digit_at h.low h.high t }
+#[tactic(auto, unfolding(crate::specs::Tables::entry))]
+fn entry(table: &[u8; 32], t: u8) -> u8
+    ensures { result ≡ entry table.now t }
 {
-    if 31 < t {
-        return 0;
-    }
-    if t < 16 {
-        return digit(h.low, t);
-    }
-    digit(h.high, t)
+    table.get(usize::from(t)).copied().unwrap_or(0)
 }
 
 #[derive(Clone, Copy)]
@@ -169,49 +138,22 @@ impl Coding {
 
     pub const OVERHEAD: usize = 10;
 
-    fn samples_halves() -> Halves
-        ensures { (result.low ≡ 0x54328876543218) × (result.high ≡ 0x800540000) }
-    {
-        Halves {
-            low: digits(&Self::SAMPLE_BITS, 0),
-            high: digits(&Self::SAMPLE_BITS, 16),
-        }
-    }
-
-    fn droppable_halves() -> Halves
-        ensures { (result.low ≡ 0x0) × (result.high ≡ 0x200320000) }
-    {
-        Halves {
-            low: digits(&Self::DROPPABLE_BITS, 0),
-            high: digits(&Self::DROPPABLE_BITS, 16),
-        }
-    }
-
-    fn reset_halves() -> Halves
-        ensures { (result.low ≡ 0x11110000000000) × (result.high ≡ 0x100110000) }
-    {
-        Halves {
-            low: digits(&Self::RESET, 0),
-            high: digits(&Self::RESET, 16),
-        }
-    }
-
     pub fn sample_bits(self) -> u8
         ensures { result ≡ sample_bits self.0 }
     {
-        entry(Self::samples_halves(), self.0)
+        entry(&SAMPLE_BITS, self.0)
     }
 
     pub fn droppable_bits(self) -> u8
         ensures { result ≡ droppable_bits self.0 }
     {
-        entry(Self::droppable_halves(), self.0)
+        entry(&DROPPABLE_BITS, self.0)
     }
 
     pub fn reset(self) -> u8
         ensures { result ≡ reset_bit self.0 }
     {
-        entry(Self::reset_halves(), self.0)
+        entry(&RESET, self.0)
     }
 
     pub fn reserved(self) -> bool
@@ -224,14 +166,18 @@ impl Coding {
     pub fn frame_length(self, dropped: usize) -> usize
         ensures { result ≡ frame_length self.0 dropped }
     {
-        let s = wide(self.sample_bits());
-        pick(s == 0, 0, Self::BLOCK * less(s, dropped) + Self::OVERHEAD)
+        let s = usize::from(self.sample_bits());
+        if s == 0 {
+            0
+        } else {
+            Self::BLOCK * s.saturating_sub(dropped) + Self::OVERHEAD
+        }
     }
 
-    pub fn refusal_6(self) -> u8
-        ensures { result ≡ refusal6 self.0 }
+    pub fn refusal_6(self) -> Result<(), Refusal>
+        ensures { refusal_of result ≡ refusal6 self.0 }
     {
-        refuse(self.reserved(), 6)
+        refuse(self.reserved(), Refusal::CodingType)
     }
 }
 
@@ -240,6 +186,7 @@ pub const NOISE_TENTHS: [u16; 16] = [
     0, 166, 197, 226, 249, 269, 290, 310, 328, 346, 362, 379, 397, 416, 438, 466,
 ];
 
+// Document 01 names this form, with the refusal as its number.
 #[derive(Clone, Copy)]
 pub enum Noise {
     Idle,
@@ -250,13 +197,9 @@ pub enum Noise {
 pub fn noise_level(code: u8) -> Noise
     ensures { paper result ≡ noise_of code }
 {
-    if code > 15 {
-        return Noise::Refused(12);
+    match code {
+        0 => Noise::Idle,
+        1..=15 => Noise::Level(f64::from(NOISE_TENTHS[usize::from(code)]) / 10.0),
+        _ => Noise::Refused(12),
     }
-    if code == 0 {
-        return Noise::Idle;
-    }
-    let k = code as usize;
-    let t = NOISE_TENTHS[k];
-    Noise::Level(t as f64 / 10.0)
 }

@@ -1,17 +1,16 @@
 // A frame: its fields, what refuses it, and the two calls that say what it is.
 #![tactic(auto)]
 
-ghost use Rattle.std.specs.Prelude.{◌≡◌, cond, List, ℕ, ◌<◌, length};
-ghost use Rattle.octets.specs.Octets.{octet};
-ghost use Rattle.refusals.specs.Refusals.{◌or_else◌, refusal1};
+ghost use Rattle.std.specs.Prelude.{◌≡◌, cond, ◌<◌};
+ghost use Rattle.refusals.specs.Refusals.{refusal_of};
 ghost use Rattle.coding.specs.Coding.{droppable_bits};
-ghost use Rattle.frame.specs.Fields.{address, command_bit, poll_bit, control, is_voice, field_m, field_c, stamp, more_bit, coding, sequence, noise, na, signal_bits};
-ghost use Rattle.frame.specs.Orders.{refusal2, refusal3, refusal24, refusal4, refusal5, refusal6, refusal19, legal_length, link_refusal, layout_refusal, taken_refusal, voice_refusal, signal_refusal};
-ghost use Rattle.frame.specs.Calls.{link_answer, taken_answer};
+ghost use Rattle.frame.specs.Fields.{address, command_bit, poll_bit, control, is_voice, field_m, field_c, stamp, more_bit, coding, sequence, noise, na, signal_bits, covered};
+ghost use Rattle.frame.specs.Orders.{refusal2, refusal3, refusal24, refusal4, refusal5, refusal6, refusal7, refusal8, refusal9, refusal19, legal_length, link_refusal, layout_refusal, taken_refusal, voice_refusal, signal_refusal};
+ghost use Rattle.frame.specs.Calls.{link_answer, taken_answer, link_paper, taken_paper};
 
 use coding::Coding;
 use octets::at;
-use refusals::{or_else, refuse};
+use refusals::{Refusal, refuse};
 
 pub fn address_of(frame: &[u8]) -> usize
     ensures { (result ≡ address frame.now) × (result < 8192) }
@@ -67,6 +66,7 @@ pub fn stamp_of(frame: &[u8]) -> u8
     at(frame, 5) as u8
 }
 
+// A bit, here and in `na_of`, is the number that a record or a watch keeps of it, which may be out of range (14, 12) as no bool can.
 pub fn more_bit(frame: &[u8]) -> u8
     ensures { (result ≡ more_bit frame.now) × (result < 2) }
 {
@@ -97,239 +97,197 @@ pub fn signal_bits(frame: &[u8]) -> u8
     (at(frame, 7) % 16) as u8
 }
 
-fn refusal_2(frame: &[u8]) -> u8
-    ensures { result ≡ refusal2 frame.now }
+fn refusal_2(frame: &[u8]) -> Result<(), Refusal>
+    ensures { refusal_of result ≡ refusal2 frame.now }
 {
     let outside = refusals::address_bad(address_of(frame));
     refuse(
         (at(frame, 0) % 2 != 0) | (at(frame, 1) % 2 != 1) | outside,
-        2,
+        Refusal::Address,
     )
 }
 
-fn refusal_3(frame: &[u8]) -> u8
-    ensures { result ≡ refusal3 frame.now }
+fn refusal_3(frame: &[u8]) -> Result<(), Refusal>
+    ensures { refusal_of result ≡ refusal3 frame.now }
 {
     let control = control_of(frame);
-    refuse((control != 239) & (control != 3), 3)
+    refuse((control != 239) & (control != 3), Refusal::Control)
 }
 
-fn refusal_24(frame: &[u8]) -> u8
-    ensures { result ≡ refusal24 frame.now }
+fn refusal_24(frame: &[u8]) -> Result<(), Refusal>
+    ensures { refusal_of result ≡ refusal24 frame.now }
 {
     let command = command_bit(frame);
     let poll = poll_bit(frame);
-    refuse((command != 0) | (poll != 0), 24)
+    refuse((command != 0) | (poll != 0), Refusal::CommandOrPoll)
 }
 
-fn refusal_4(frame: &[u8]) -> u8
-    ensures { result ≡ refusal4 frame.now }
+// How many octets the check sequence covers.
+fn covered(frame: &[u8]) -> usize
+    ensures { result ≡ covered frame.now }
 {
-    let covered = octets::pick(is_voice(frame), 8, octets::less(frame.len(), 2));
-    refuse(!fcs::good(frame, covered), 4)
-}
-
-fn refusal_5(frame: &[u8]) -> u8
-    ensures { result ≡ refusal5 frame.now }
-{
-    refuse(at(frame, 3) != 68, 5)
-}
-
-fn refusal_6(frame: &[u8]) -> u8
-    ensures { result ≡ refusal6 frame.now }
-{
-    refuse(is_voice(frame) & coding_of(frame).reserved(), 6)
-}
-
-// 7, 8 and 9 of voice and of signalling alike: `most` is the M that the frame must have, `whole` its length.
-fn laid_out(m: usize, c: usize, len: usize, stamp: u8, most: usize, whole: usize) -> u8
-    ensures { (f : List ℕ) → m ≡ field_m f → c ≡ field_c f → len ≡ length f → stamp ≡ octet 6 f → most ≡ cond (is_voice f) (droppable_bits (coding f)) 0 → whole ≡ legal_length f → result ≡ layout_refusal f }
-{
-    let r7 = refuse((m != most) | (m < c), 7);
-    let r8 = refuse(len != whole, 8);
-    let r9 = refuse(200 < stamp, 9);
-    or_else(r7, or_else(r8, r9))
-}
-
-// The same of the octets and the length that they go by: numbers pass in registers, a slice through memory,
-// so each order reads them itself.
-fn layout_by(voice: bool, len: usize, fifth: usize, stamp: u8, kind: Coding) -> u8
-    ensures { (f : List ℕ) → voice ≡ is_voice f → len ≡ length f → fifth ≡ octet 5 f → stamp ≡ octet 6 f → kind.0 ≡ coding f → result ≡ layout_refusal f }
-{
-    let m = fifth / 16 % 4;
-    let c = fifth % 4;
-    if voice {
-        let most = octets::wide(kind.droppable_bits());
-        let whole = kind.frame_length(octets::less(m, c));
-        return laid_out(m, c, len, stamp, most, whole);
+    if is_voice(frame) {
+        return 8;
     }
-    laid_out(m, c, len, stamp, 0, 10)
+    frame.len().saturating_sub(2)
 }
 
-fn refusal_19(frame: &[u8], voicecall: bool) -> u8
-    ensures { result ≡ refusal19 voicecall frame.now }
+fn refusal_4(frame: &[u8]) -> Result<(), Refusal>
+    ensures { refusal_of result ≡ refusal4 frame.now }
 {
-    let voice = is_voice(frame);
-    if voicecall {
-        refuse(!voice, 19)
+    refuse(!fcs::good(frame, covered(frame)), Refusal::CheckSequence)
+}
+
+fn refusal_5(frame: &[u8]) -> Result<(), Refusal>
+    ensures { refusal_of result ≡ refusal5 frame.now }
+{
+    refuse(at(frame, 3) != 68, Refusal::Protocol)
+}
+
+fn refusal_6(frame: &[u8]) -> Result<(), Refusal>
+    ensures { refusal_of result ≡ refusal6 frame.now }
+{
+    refuse(
+        is_voice(frame) & coding_of(frame).reserved(),
+        Refusal::CodingType,
+    )
+}
+
+// The M that a frame of its kind must have.
+fn legal_m(frame: &[u8]) -> usize
+    ensures { result ≡ cond (is_voice frame.now) (droppable_bits (coding frame.now)) 0 }
+{
+    if is_voice(frame) {
+        usize::from(coding_of(frame).droppable_bits())
     } else {
-        refuse(voice, 19)
+        0
     }
 }
 
-// 1, 2, 3 and 24. Below the return the compiler knows the length, and tests no index.
-fn form_refusal(frame: &[u8]) -> u8
-    ensures { result ≡ refusal1 (length frame.now) or_else refusal2 frame.now or_else refusal3 frame.now or_else refusal24 frame.now }
+fn legal_length(frame: &[u8]) -> usize
+    ensures { result ≡ legal_length frame.now }
 {
-    let size = refusals::refusal_1(frame.len());
-    if size != 0 {
-        return size;
+    if !is_voice(frame) {
+        return 10;
     }
-    or_else(
-        refusal_2(frame),
-        or_else(refusal_3(frame), refusal_24(frame)),
+    let dropped = field_m(frame).saturating_sub(field_c(frame));
+    coding_of(frame).frame_length(dropped)
+}
+
+fn refusal_7(frame: &[u8]) -> Result<(), Refusal>
+    ensures { refusal_of result ≡ refusal7 frame.now }
+{
+    let m = field_m(frame);
+    refuse(
+        (m != legal_m(frame)) | (m < field_c(frame)),
+        Refusal::Dropping,
     )
 }
 
-// 4 and 5: the check sequence is summed only once the form is right.
-fn sum_refusal(frame: &[u8]) -> u8
-    ensures { result ≡ refusal4 frame.now or_else refusal5 frame.now }
+fn refusal_8(frame: &[u8]) -> Result<(), Refusal>
+    ensures { refusal_of result ≡ refusal8 frame.now }
 {
-    or_else(refusal_4(frame), refusal_5(frame))
+    refuse(frame.len() != legal_length(frame), Refusal::FrameLength)
 }
 
-// What costs no sum is judged first: a frame of a megabyte, or one of another protocol, is refused at once.
-pub fn link_refusal(frame: &[u8]) -> u8
-    ensures { result ≡ link_refusal frame.now }
+fn refusal_9(frame: &[u8]) -> Result<(), Refusal>
+    ensures { refusal_of result ≡ refusal9 frame.now }
 {
-    let form = form_refusal(frame);
-    if form != 0 {
-        return form;
-    }
-    sum_refusal(&*frame)
+    refuse(200 < stamp_of(frame), Refusal::Stamp)
 }
 
-pub fn taken_refusal(frame: &[u8]) -> u8
-    ensures { result ≡ taken_refusal frame.now }
+#[tactic(auto, using(refusals::proofs::RefusalLaws::judged), unfolding(crate::specs::Orders::layout_refusal))]
+fn layout_refusal(frame: &[u8]) -> Result<(), Refusal>
+    ensures { refusal_of result ≡ layout_refusal frame.now }
 {
-    let form = form_refusal(frame);
-    if form != 0 {
-        return form;
-    }
-    let first = sum_refusal(&*frame);
-    if first != 0 {
-        return first;
-    }
-    let r6 = refusal_6(frame);
-    let laid = layout_by(
-        is_voice(frame),
-        frame.len(),
-        at(frame, 4),
-        stamp_of(frame),
-        coding_of(frame),
-    );
-    or_else(r6, laid)
+    refusal_7(frame)?;
+    refusal_8(frame)?;
+    refusal_9(frame)
 }
 
-pub fn voice_refusal(frame: &[u8]) -> u8
-    ensures { result ≡ voice_refusal frame.now }
+// The kind that the call is of is compared, and chooses nothing.
+fn refusal_19(frame: &[u8], voicecall: bool) -> Result<(), Refusal>
+    ensures { refusal_of result ≡ refusal19 voicecall frame.now }
 {
-    let form = form_refusal(frame);
-    if form != 0 {
-        return form;
-    }
-    let sum = sum_refusal(&*frame);
-    let signalling = refusal_19(frame, true);
-    let first = or_else(sum, signalling);
-    if first != 0 {
-        return first;
-    }
-    let reserved = refusal_6(frame);
-    if reserved != 0 {
-        return reserved;
-    }
-    layout_by(
-        is_voice(frame),
-        frame.len(),
-        at(frame, 4),
-        stamp_of(frame),
-        coding_of(frame),
-    )
+    refuse(is_voice(frame) != voicecall, Refusal::Kind)
 }
 
-pub fn signal_refusal(frame: &[u8]) -> u8
-    ensures { result ≡ signal_refusal frame.now }
+// 1 to 5 with 24. What costs no sum is judged first: a frame of a megabyte, or one of another protocol, is refused at once.
+#[tactic(auto, using(refusals::proofs::RefusalLaws::judged), unfolding(crate::specs::Orders::link_refusal))]
+pub fn link_refusal(frame: &[u8]) -> Result<(), Refusal>
+    ensures { refusal_of result ≡ link_refusal frame.now }
 {
-    let form = form_refusal(frame);
-    if form != 0 {
-        return form;
-    }
-    let sum = sum_refusal(&*frame);
-    let voice = refusal_19(frame, false);
-    let first = or_else(sum, voice);
-    if first != 0 {
-        return first;
-    }
-    layout_by(
-        is_voice(frame),
-        frame.len(),
-        at(frame, 4),
-        stamp_of(frame),
-        coding_of(frame),
-    )
+    refusals::refusal_1(frame.len())?;
+    refusal_2(frame)?;
+    refusal_3(frame)?;
+    refusal_24(frame)?;
+    refusal_4(frame)?;
+    refusal_5(frame)
 }
 
-#[derive(Clone, Copy)]
+#[tactic(auto, using(refusals::proofs::RefusalLaws::judged), unfolding(crate::specs::Orders::taken_refusal))]
+pub fn taken_refusal(frame: &[u8]) -> Result<(), Refusal>
+    ensures { refusal_of result ≡ taken_refusal frame.now }
+{
+    link_refusal(frame)?;
+    refusal_6(frame)?;
+    layout_refusal(frame)
+}
+
+#[tactic(auto, using(refusals::proofs::RefusalLaws::judged), unfolding(crate::specs::Orders::voice_refusal))]
+pub fn voice_refusal(frame: &[u8]) -> Result<(), Refusal>
+    ensures { refusal_of result ≡ voice_refusal frame.now }
+{
+    link_refusal(frame)?;
+    refusal_19(frame, true)?;
+    refusal_6(frame)?;
+    layout_refusal(frame)
+}
+
+#[tactic(auto, using(refusals::proofs::RefusalLaws::judged), unfolding(crate::specs::Orders::signal_refusal))]
+pub fn signal_refusal(frame: &[u8]) -> Result<(), Refusal>
+    ensures { refusal_of result ≡ signal_refusal frame.now }
+{
+    link_refusal(frame)?; // whole, before it is asked of which kind it is
+    refusal_19(frame, false)?;
+    layout_refusal(frame)
+}
+
+// What a frame that is whole and in its form is.
+#[derive(Clone, Copy, Debug, PartialEq, Eq)]
 pub struct LinkFacts {
-    pub refusal: u8,
     pub voice: bool,
     pub address: u16,
 }
 
 // Whether a frame is whole and in its form (1 to 5 with 24), and what it is: voice or not, and its address.
-pub fn link(frame: &[u8]) -> LinkFacts
-    ensures { result ≡ link_answer frame.now }
+#[tactic(auto, using(refusals::proofs::RefusalLaws::judged), unfolding(crate::specs::Calls::link_answer, crate::specs::Calls::link_paper))]
+pub fn link(frame: &[u8]) -> Result<LinkFacts, Refusal>
+    ensures { link_paper result ≡ link_answer frame.now }
 {
-    let refusal = link_refusal(frame);
-    if refusal != 0 {
-        return LinkFacts {
-            refusal,
-            voice: false,
-            address: 0,
-        };
-    }
-    LinkFacts {
-        refusal: 0,
+    link_refusal(frame)?;
+    Ok(LinkFacts {
         voice: is_voice(frame),
         address: address_of(frame) as u16,
-    }
+    })
 }
 
-#[derive(Clone, Copy)]
+#[derive(Clone, Copy, Debug, PartialEq, Eq)]
 pub struct TakenFacts {
-    pub refusal: u8,
     pub voice: bool,
     pub length: usize,
     pub c: u8,
 }
 
 // Whether a node takes a frame (1 to 9 with 24), and what it is: voice or not, its length, and its C.
-pub fn taken(frame: &[u8]) -> TakenFacts
-    ensures { result ≡ taken_answer frame.now }
+#[tactic(auto, using(refusals::proofs::RefusalLaws::judged), unfolding(crate::specs::Calls::taken_answer, crate::specs::Calls::taken_paper))]
+pub fn taken(frame: &[u8]) -> Result<TakenFacts, Refusal>
+    ensures { taken_paper result ≡ taken_answer frame.now }
 {
-    let refusal = taken_refusal(frame);
-    if refusal != 0 {
-        return TakenFacts {
-            refusal,
-            voice: false,
-            length: 0,
-            c: 0,
-        };
-    }
-    TakenFacts {
-        refusal: 0,
+    taken_refusal(frame)?;
+    Ok(TakenFacts {
         voice: is_voice(frame),
         length: frame.len(),
         c: field_c(frame) as u8,
-    }
+    })
 }

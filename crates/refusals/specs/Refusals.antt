@@ -1,5 +1,42 @@
 -- Document 01, "Refusal numbers" and "Order": how an order is written, and the numbers that judge numbers alone. 0 is no refusal.
-use Rattle.std.specs.Prelude.{ℕ, zero, suc, Bool, true, false, ◌||◌, ltb}
+use Rattle.std.specs.Prelude.{ℕ, zero, suc, Bool, true, false, ◌||◌, ltb, Result, Ok, Err}
+use Rattle.refusals.specs.declared.Refusal.{Refusal}
+use Rattle.refusals.specs.declared.Refusal.TheVariants.{FrameSize, Address, Control, CheckSequence, Protocol, CodingType, Dropping, FrameLength, Stamp, Level, Samples, Bits, OutOfTurn, Record, OutgoingAddress, Room, Late, Clock, Kind, TooFarAhead, NotOffered, PartOctet, Aborted, CommandOrPoll, QueueFull, QueueEmpty, Tray}
+
+-- the number of a refusal
+abbrev pub number : Refusal → ℕ
+number FrameSize = 1
+number Address = 2
+number Control = 3
+number CheckSequence = 4
+number Protocol = 5
+number CodingType = 6
+number Dropping = 7
+number FrameLength = 8
+number Stamp = 9
+number Level = 10
+number Samples = 11
+number Bits = 12
+number OutOfTurn = 13
+number Record = 14
+number OutgoingAddress = 15
+number Room = 16
+number Late = 17
+number Clock = 18
+number Kind = 19
+number TooFarAhead = 20
+number NotOffered = 21
+number PartOctet = 22
+number Aborted = 23
+number CommandOrPoll = 24
+number QueueFull = 25
+number QueueEmpty = 26
+number Tray = 27
+
+-- the number by which a call is refused; 0 where it is done
+abbrev pub refusal_of : {A : Type 0} → Result A Refusal → ℕ
+refusal_of (Ok a) = 0
+refusal_of (Err r) = number r
 
 infixr 20 ◌or_else◌
 -- the first refusal or, where that is none, the second

@@ -9,10 +9,10 @@ pub loop-i-init : goal.loop-i-init
 loop-i-init c = (search rules, refl, λ n p hn hp l. absurd (omega arith))
 
 pub lower-requires : goal.lower-requires
-lower-requires c = mask_needs _ _ c.requires.1
+lower-requires c = mask_needs _ _ c.requires
 
 pub upper-requires : goal.upper-requires
-upper-requires c = mask_needs _ _ c.requires.1
+upper-requires c = mask_needs _ _ c.requires
 
 pub loop-i-preserved : goal.loop-i-preserved
 loop-i-preserved c =

@@ -1,8 +1,7 @@
-use mathlib.Core.Path.{◌≡◌, refl, sym, ap, ◌∙◌}
+use mathlib.Core.Path.{◌≡◌, sym, ap, ◌∙◌}
 use mathlib.Core.Bool.{Bool, ◌&&◌}
-use Prim.Native.Nat.{ℕ, ◌^◌, ◌<◌}
+use Prim.Native.Nat.{◌^◌}
 use native.Mathlib.Omega.{arith}
-use borrow.Author.Rules.{rules}
 use borrow.Author.Tests.{ne_eqb, eq-eqb}
 use lib.ListN.{length, get_or}
 use Rattle.blocks.specs.Blocks.{all_below, samples_fit}
@@ -15,24 +14,16 @@ returns-then-samples-ne128 c =
     let a = c.args in
     sym (ap (λ (t : Bool). t && all_below (2 ^ a.s) a.samples.now) (ne_eqb (length a.samples.now) 128 c.if-samples-ne128.true))
 
-pub loop-i-init : goal.loop-i-init
-loop-i-init c = (search rules, refl)
-
-pub loop-i-preserved : goal.loop-i-preserved
-loop-i-preserved c =
+pub loop-x-preserved : goal.loop-x-preserved
+loop-x-preserved c =
     let a = c.args in
-    let l = c.loop-i in
-    let q = c.highest-top in
-    let x : ℕ = get_or a.samples.now l.i 0 in
-    let octet : x < 256 = omega (arith, c.shared_slice_known-in-loop-i-1.given l.i) in (
-      omega arith,
-      below_more (2 ^ a.s) a.samples.now l.i l.fit _ (omega arith) (q.ensures x octet) ∙ l.invariant.1,
-    )
+    let l = c.loop-x in
+    below_more (2 ^ a.s) a.samples.now l.x-index l.fit _ (omega arith) (c.highest-top.ensures (get_or a.samples.now l.x-index 0) (c.type_inv.samples l.x-index).fits) ∙ l.invariant
 
 pub returns : goal.returns
 unfolding samples_fit
 returns c =
     let a = c.args in
-    let l = c.loop-i in
+    let l = c.loop-x in
     let n : length a.samples.now ≡ 128 = omega arith in
-    rw (eq-eqb _ _ n) (sym (below_end (2 ^ a.s) a.samples.now l.i l.fit (omega arith)) ∙ l.invariant.1)
+    rw (eq-eqb _ _ n) (sym (below_end (2 ^ a.s) a.samples.now l.x-index l.fit (omega arith)) ∙ l.invariant)

@@ -1,5 +1,5 @@
 use Prim.Native.Nat.{ℕ, ◌≤◌}
-use mathlib.Core.Path.{◌≡◌, refl, sym, ap, ◌∙◌}
+use mathlib.Core.Path.{◌≡◌, refl, ap}
 use native.Mathlib.Omega.{arith}
 use lib.ListN.{get_or-eq_default}
 use lib.IntN.{pos}
@@ -8,8 +8,7 @@ use borrow.Author.Tests.{lt-ltb, le-ltb, ne_eqb}
 use Rattle.octets.specs.Octets.{tab}
 use Rattle.octets.proofs.TabLaws.{agree}
 use Rattle.coding.specs.Noise.{tenths, tenth, noise_of, paper}
-use Rattle.coding.specs.declared.Noise.{Noise}
-use Rattle.coding.specs.declared.Noise.TheVariants.{Idle, Level}
+use Rattle.coding.specs.declared.Noise.TheVariants.{Level}
 use Rattle.coding.proofs.noise_level.Goals as goal
 
 -- what the code computes of a number of tenths, and that it is the double that the paper wants
@@ -20,24 +19,20 @@ levels : tab (λ k. coded (tenths k)) 16 ≡ tab (λ k. tenth (tenths k)) 16
 unfolding tab round div of_int of_bits
 levels = refl
 
-pub returns-then-code-gt15 : goal.returns-then-code-gt15
+pub returns-in-0 : goal.returns-in-0
 unfolding paper noise_of
-returns-then-code-gt15 c =
+returns-in-0 c = rw c.in-0.is refl
+
+pub returns-in-1-to-15 : goal.returns-in-1-to-15
+unfolding paper noise_of
+returns-in-1-to-15 c =
+    let k = c.args.code in
+    simp (le-ltb 15 k (omega arith), ne_eqb k 0 (λ z. omega arith), c.from-in-1-to-15.ensures, c.from.ensures)
+    (ap (λ x. paper (Level x)) (agree (λ n. coded (tenths n)) (λ n. tenth (tenths n)) 16 levels k (omega arith)))
+
+pub returns-in_default : goal.returns-in_default
+unfolding paper noise_of
+returns-in_default c =
     let k = c.args.code in
     let above : 16 ≤ k = omega arith in
     simp (lt-ltb 15 k above, ne_eqb k 0 (λ e. omega arith), get_or-eq_default)
-
--- code 0
-idle_is : (code : ℕ) (r : Noise) → code ≡ 0 → r ≡ Idle → paper r ≡ noise_of code
-unfolding paper noise_of
-idle_is code r z e = ap paper e ∙ sym (ap noise_of z)
-
-pub returns-then-code-eq0 : goal.returns-then-code-eq0
-returns-then-code-eq0 c = idle_is c.args.code _ c.if-code-eq0.true refl
-
-pub returns : goal.returns
-unfolding paper noise_of
-returns c =
-    let k = c.args.code in
-    simp (le-ltb 15 k (omega arith), ne_eqb k 0 c.if-code-eq0.false)
-    (ap (λ x. paper (Level x)) (agree (λ n. coded (tenths n)) (λ n. tenth (tenths n)) 16 levels k (omega arith)))
