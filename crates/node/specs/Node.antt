@@ -3,8 +3,7 @@ use Rattle.std.specs.Prelude.{ℕ, ◌^◌, ◌≤◌, ◌<◌, ◌≡◌, List,
 use Rattle.refusals.specs.Refusals.{◌or_else◌, refusal10, refusal15, refusal16}
 use Rattle.frame.specs.Orders.{taken_refusal}
 use Rattle.onward.specs.Onward.{onward}
-use Rattle.onward.specs.Sent.{sent_answer, sent_buffer}
-use Rattle.onward.specs.declared.Sent.{Sent}
+use Rattle.onward.specs.Sent.{Sent, sent_answer, sent_buffer}
 
 -- 10, 15, 1 to 5 with 24, then 6 (voice only), 7, 8, 9, 16
 unfoldable pub forward_refusal : ℕ → ℕ → ℕ → List ℕ → ℕ → ℕ

@@ -2,23 +2,21 @@
 #![tactic(auto)]
 
 ghost use Rattle.std.specs.Prelude.{◌≡◌, ◌++◌, ℕ, drop};
+ghost use Rattle.refusals.specs.Refusals.{refusal_of};
 ghost use Rattle.onward.specs.Onward.{wait_of, onward};
+ghost use Rattle.onward.specs.Sent.{sent_paper};
 ghost use Rattle.node.specs.Node.{forward_refusal, forward_answer, forward_buffer, Sendable};
 
-use onward::Sent;
-use refusals::or_else;
+use onward::Hop;
+use refusals::Refusal;
 
-fn forward_refusal(frame: &[u8], level: usize, address: usize, room: usize) -> u8
-    ensures { (wait : ℕ) → result ≡ forward_refusal level wait address frame.now room }
+#[tactic(auto, using(refusals::proofs::RefusalLaws::judged), unfolding(crate::specs::Node::forward_refusal))]
+fn forward_refusal(frame: &[u8], level: usize, address: usize, room: usize) -> Result<(), Refusal>
+    ensures { (wait : ℕ) → refusal_of result ≡ forward_refusal level wait address frame.now room }
 {
-    let given = or_else(refusals::refusal_10(level), refusals::refusal_15(address));
-    if given != 0 {
-        return given;
-    }
-    let taken = frame::taken_refusal(&*frame);
-    if taken != 0 {
-        return taken;
-    }
+    refusals::refusal_10(level)?;
+    refusals::refusal_15(address)?;
+    frame::taken_refusal(frame)?;
     refusals::refusal_16(room, onward::onward_length(frame, level))
 }
 
@@ -35,17 +33,16 @@ fn send_on(frame: &[u8], n: usize, level: usize, wait: usize, address: usize, ou
     fcs::put(out, check, n - 2);
 }
 
-// Voice and signalling alike. Refused, the buffer is as it came; taken, so is what is left of it.
-pub fn forward(frame: &[u8], level: u8, from: u32, to: u32, address: u16, out: &mut [u8]) -> Sent
-    ensures answer { result ≡ forward_answer level (wait_of from to) address frame.now out.old }
-    ensures buffer { out.new ≡ forward_buffer level (wait_of from to) address frame.now out.old }
+// Voice and signalling alike; answers the length of the frame sent on. Refused, the buffer is as it came; taken, so is what is left of it.
+#[tactic(auto, using(refusals::proofs::RefusalLaws::judged), unfolding(crate::specs::Node::forward_answer, crate::specs::Node::forward_buffer, onward::specs::Sent::sent_answer, onward::specs::Sent::sent_buffer, onward::specs::Sent::sent_paper))]
+pub fn forward(frame: &[u8], hop: Hop, out: &mut [u8]) -> Result<usize, Refusal>
+    ensures answer { sent_paper result ≡ forward_answer hop.level (wait_of hop.from hop.to) hop.address frame.now out.old }
+    ensures buffer { out.new ≡ forward_buffer hop.level (wait_of hop.from hop.to) hop.address frame.now out.old }
 {
-    let refusal = forward_refusal(frame, level as usize, address as usize, out.len());
-    if refusal != 0 {
-        return Sent { refusal, length: 0 };
-    }
-    let wait = onward::wait_of(from, to);
-    let length = onward::onward_length(frame, level as usize);
-    send_on(frame, length, level as usize, wait, address as usize, out);
-    Sent { refusal: 0, length }
+    let level = usize::from(hop.level);
+    let address = usize::from(hop.address);
+    forward_refusal(frame, level, address, out.len())?;
+    let length = onward::onward_length(frame, level);
+    send_on(frame, length, level, hop.wait(), address, out);
+    Ok(length)
 }

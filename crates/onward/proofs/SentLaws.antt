@@ -1,7 +1,9 @@
 -- What a call that writes a frame answers and leaves.
+use Rattle.std.specs.Prelude.{Result}
 use Rattle.std.proofs.Common.{◌≡◌, ℕ, zero, suc, List, ◌++◌, length, take, drop, refl, ap, ◌∙◌, take_at}
-use Rattle.refusals.proofs.RefusalLaws.{refused_is, done_is}
-use Rattle.onward.specs.Sent.{sent_answer, sent_buffer}
+use Rattle.refusals.specs.declared.Refusal.{Refusal}
+use Rattle.refusals.proofs.RefusalLaws.{refused_is, done_is, result_one}
+use Rattle.onward.specs.Sent.{Sent, sent_answer, sent_buffer, sent_paper}
 
 -- the number that it answers is its refusal
 pub answered : (refusal : ℕ) (written : List ℕ) → (sent_answer refusal written).refusal ≡ refusal
@@ -34,3 +36,8 @@ module _ (q r n : ℕ) (f : List ℕ) (e : r ≡ q) (z : r ≡ 0) (en : n ≡ le
   pub buffer_done : (out x : List ℕ) → x ≡ f ++ drop n out → x ≡ sent_buffer q f out
   unfolding sent_buffer
   buffer_done out x ex = done_is q r _ _ _ e z (ex ∙ ap (λ (k : ℕ). f ++ drop k out) en)
+
+-- only one result has the number and the length of an answer
+pub sent_one : (x y : Result ℕ Refusal) → sent_paper x ≡ sent_paper y → x ≡ y
+unfolding sent_paper
+sent_one x y e = result_one sent_paper (λ (a : Sent). a.refusal) (λ (a : Sent). a.length) (λ a. refl) (λ a. refl) (λ a. refl) x y e

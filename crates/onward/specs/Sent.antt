@@ -1,7 +1,16 @@
 -- Document 01, "Order": what a call that writes a frame answers and leaves in its buffer, refused or not.
-use Rattle.std.specs.Prelude.{ℕ, List, ◌++◌, length, drop}
-use Rattle.refusals.specs.Refusals.{if_taken}
-use Rattle.onward.specs.declared.Sent.{Sent}
+use Rattle.std.specs.Prelude.{ℕ, List, ◌++◌, length, drop, Result, Ok, Err}
+use Rattle.refusals.specs.Refusals.{if_taken, number}
+use Rattle.refusals.specs.declared.Refusal.{Refusal}
+
+pub record Sent : Type 0 where
+  pub refusal : ℕ
+  pub length : ℕ
+
+-- the paper's number and values for each case
+unfoldable pub sent_paper : Result ℕ Refusal → Sent
+sent_paper (Ok n) = record { refusal = 0; length = n }
+sent_paper (Err r) = record { refusal = number r; length = 0 }
 
 -- the length of the frame written, or the number with 0
 unfoldable pub sent_answer : ℕ → List ℕ → Sent

@@ -1,7 +1,9 @@
 -- Document 01, "Origin and node": SSEQ, 0 outside a burst and 1 to 15 inside, and what each step sends and sets.
-use Rattle.std.specs.Prelude.{ℕ, not, cond, ltb, eqb, List, [], ◌∷◌}
+use Rattle.std.specs.Prelude.{◌≡◌, ℕ, not, cond, ltb, eqb, List, [], ◌∷◌, Result, Ok, Err}
 use Rattle.octets.specs.Sequence.{next_number}
 use Rattle.refusals.specs.Refusals.{refuse, if_taken}
+use Rattle.refusals.specs.declared.Refusal.{Refusal}
+use Rattle.refusals.specs.declared.Refusal.TheVariants.{OutOfTurn}
 use Rattle.origin.specs.declared.Step.{Step}
 use Rattle.origin.specs.declared.Step.TheVariants.{Start, Data, Stop}
 
@@ -41,3 +43,7 @@ sseq_after sseq (step ∷ steps) = sseq_after (if_taken (refusal13 step sseq) (s
 -- a step by its number: 0 START, 1 DATA, 2 STOP
 abbrev pub step_numbered : ℕ → Step
 step_numbered n = cond (eqb n 0) Start (cond (eqb n 1) Data Stop)
+
+-- and the numbers that are none
+abbrev pub StepOf : ℕ → Result Step Refusal → Type 0
+StepOf n r = r ≡ cond (ltb 2 n) (Err OutOfTurn) (Ok (step_numbered n))

@@ -4,8 +4,7 @@ use Rattle.refusals.specs.Refusals.{◌or_else◌, if_taken, refusal10, refusal1
 use Rattle.coding.specs.Coding.{sample_bits, droppable_bits, refusal6}
 use Rattle.blocks.specs.Blocks.{field, refusal11}
 use Rattle.onward.specs.Onward.{framed, onward}
-use Rattle.onward.specs.Sent.{sent_answer, sent_buffer}
-use Rattle.onward.specs.declared.Sent.{Sent}
+use Rattle.onward.specs.Sent.{Sent, sent_answer, sent_buffer}
 use Rattle.origin.specs.Burst.{refusal13, refusal14, sequence_sent, more_sent, sseq_set}
 use Rattle.origin.specs.declared.Step.{Step}
 

@@ -2,8 +2,7 @@
 use Rattle.std.specs.Prelude.{ℕ, ◌+◌, ◌*◌, ◌/◌, ◌%◌, List, [], ◌∷◌, length}
 use Rattle.refusals.specs.Refusals.{◌or_else◌, refusal12, refusal15, refusal16}
 use Rattle.onward.specs.Onward.{framed, onward}
-use Rattle.onward.specs.Sent.{sent_answer, sent_buffer}
-use Rattle.onward.specs.declared.Sent.{Sent}
+use Rattle.onward.specs.Sent.{Sent, sent_answer, sent_buffer}
 
 unfoldable pub signal_head : ℕ → ℕ → ℕ → List ℕ
 signal_head addr na bits =

@@ -3,80 +3,102 @@
 
 ghost use Rattle.std.specs.Prelude.{◌≡◌, [], ◌∷◌, ◌++◌, ℕ, ◌+◌, ◌*◌, ◌/◌, ◌%◌, ◌^◌, ◌<◌, ◌≤◌, min, length, drop};
 ghost use Rattle.coding.specs.Coding.{droppable_bits};
+ghost use Rattle.refusals.specs.Refusals.{refusal_of};
 ghost use Rattle.onward.specs.Onward.{wait_of};
-ghost use Rattle.origin.specs.Burst.{refusal14, refusal13, sequence_sent, more_sent, sseq_set, step_numbered};
+ghost use Rattle.onward.specs.Sent.{sent_paper};
+ghost use Rattle.origin.specs.Burst.{refusal14, refusal13, sequence_sent, more_sent, sseq_set, step_numbered, StepOf};
 ghost use Rattle.origin.specs.Send.{made_head, send_written, send_refusal, send_answer, send_buffer, send_sseq};
 ghost use Rattle.origin.specs.Signal.{signal_written, signal_refusal, signal_answer, signal_buffer};
 
 use coding::Coding;
-use onward::Sent;
-use refusals::{or_else, refuse};
+use onward::Hop;
+use refusals::{Refusal, refuse};
 
 // A burst is one START, any number of DATA, and a STOP.
-#[derive(Clone, Copy)]
+#[derive(Clone, Copy, Debug, PartialEq, Eq)]
 pub enum Step {
     Start,
     Data,
     Stop,
 }
 
-// A step by its number; a number above 2 is for the caller to refuse.
+// A step by its number, 2 and above STOP. It stays beside the conversion below, since it cannot fail.
 pub fn step_numbered(n: usize) -> Step
     ensures { result ≡ step_numbered n }
 {
-    if n == 0 {
-        return Step::Start;
-    }
-    if n == 1 {
-        return Step::Data;
-    }
-    Step::Stop
-}
-
-fn refusal_14(sseq: u8) -> u8
-    ensures { result ≡ refusal14 sseq }
-{
-    refuse(15 < sseq, 14)
-}
-
-fn refusal_13(step: Step, sseq: u8) -> u8
-    ensures { result ≡ refusal13 step sseq }
-{
-    match step {
-        Step::Start => refuse(sseq != 0, 13),
-        Step::Data => refuse(sseq == 0, 13),
-        Step::Stop => refuse(sseq == 0, 13),
+    match n {
+        0 => Step::Start,
+        1 => Step::Data,
+        _ => Step::Stop,
     }
 }
 
-pub fn sequence_sent(step: Step, sseq: u8) -> u8
-    ensures { result ≡ sequence_sent step sseq }
-{
-    match step {
-        Step::Start => 0,
-        Step::Data => sseq,
-        Step::Stop => sseq,
+impl TryFrom<u8> for Step {
+    type Error = Refusal;
+
+    ghost try_from_gives = { StepOf };
+
+    fn try_from(number: u8) -> Result<Self, Refusal> {
+        match number {
+            0 => Ok(Step::Start),
+            1 => Ok(Step::Data),
+            2 => Ok(Step::Stop),
+            _ => Err(Refusal::OutOfTurn),
+        }
     }
 }
 
-pub fn more_sent(step: Step) -> u8
-    ensures { result ≡ more_sent step }
-{
-    match step {
-        Step::Start => 1,
-        Step::Data => 1,
-        Step::Stop => 0,
+impl Step {
+    fn refusal_13(self, sseq: u8) -> Result<(), Refusal>
+        ensures { refusal_of result ≡ refusal13 self sseq }
+    {
+        match self {
+            Step::Start => refuse(sseq != 0, Refusal::OutOfTurn),
+            Step::Data | Step::Stop => refuse(sseq == 0, Refusal::OutOfTurn),
+        }
+    }
+
+    pub fn sequence_sent(self, sseq: u8) -> u8
+        ensures { result ≡ sequence_sent self sseq }
+    {
+        match self {
+            Step::Start => 0,
+            Step::Data | Step::Stop => sseq,
+        }
+    }
+
+    pub fn more_sent(self) -> u8
+        ensures { result ≡ more_sent self }
+    {
+        match self {
+            Step::Start | Step::Data => 1,
+            Step::Stop => 0,
+        }
+    }
+
+    pub fn sseq_set(self, sseq: u8) -> u8
+        ensures { result ≡ sseq_set self sseq }
+    {
+        match self {
+            Step::Start => 1,
+            Step::Data => octets::next_number(sseq),
+            Step::Stop => 0,
+        }
     }
 }
 
-pub fn sseq_set(step: Step, sseq: u8) -> u8
-    ensures { result ≡ sseq_set step sseq }
+// What the origin is told of a packet beside its samples.
+#[derive(Clone, Copy)]
+pub struct Packet {
+    pub step: Step,
+    pub coding: Coding,
+    pub noise: u8,
+}
+
+fn refusal_14(sseq: u8) -> Result<(), Refusal>
+    ensures { refusal_of result ≡ refusal14 sseq }
 {
-    match step {
-        Step::Start => 1,
-        Step::Data => octets::next_number(sseq),
-        Step::Stop => 0,
-    }
+    refuse(15 < sseq, Refusal::Record)
 }
 
 // Octets 1 to 8 of a frame just made, its stamp 0. A writer sets reserved, C/R and poll bits to 0.
@@ -112,64 +134,55 @@ fn made_head(coding: u8, more: u8, sequence: u8, noise: u8, address: usize) -> [
 }
 
 // What the origin drops is the lesser of D and the level.
-fn dropped_of(coding: u8, level: usize) -> usize
-    ensures { result ≡ min (droppable_bits coding) level }
+fn dropped_of(coding: Coding, level: usize) -> usize
+    ensures { result ≡ min (droppable_bits coding.0) level }
 {
-    octets::lesser(octets::wide(Coding(coding).droppable_bits()), level)
+    usize::from(coding.droppable_bits()).min(level)
 }
 
+#[tactic(auto, using(refusals::proofs::RefusalLaws::judged), unfolding(crate::specs::Send::send_refusal))]
 fn send_refusal(
     sseq: u8,
-    step: Step,
-    coding: u8,
-    noise: u8,
+    packet: Packet,
     samples: &[u8],
     level: usize,
     address: usize,
     room: usize,
-) -> u8
-    ensures { (wait : ℕ) → result ≡ send_refusal sseq step coding noise samples.now level wait address room }
+) -> Result<(), Refusal>
+    ensures { (wait : ℕ) → refusal_of result ≡ send_refusal sseq packet.step packet.coding.0 packet.noise samples.now level wait address room }
 {
-    let r14 = refusal_14(sseq);
-    let r13 = refusal_13(step, sseq);
-    let kind = Coding(coding);
-    let r6 = kind.refusal_6();
-    let r12 = refusals::refusal_12(noise, 0);
-    let cheap = or_else(r14, or_else(r13, or_else(r6, r12)));
-    if cheap != 0 {
-        return cheap;
-    }
-    let r11 = blocks::refusal_11(samples, octets::wide(kind.sample_bits()));
-    let r10 = refusals::refusal_10(level);
-    let r15 = refusals::refusal_15(address);
-    let length = kind.frame_length(dropped_of(coding, level));
-    let r16 = refusals::refusal_16(room, length);
-    let last = or_else(r10, or_else(r15, r16));
-    or_else(r11, last)
+    let coding = packet.coding;
+    refusal_14(sseq)?;
+    packet.step.refusal_13(sseq)?;
+    coding.refusal_6()?;
+    refusals::refusal_12(packet.noise, 0)?;
+    blocks::refusal_11(samples, usize::from(coding.sample_bits()))?;
+    refusals::refusal_10(level)?;
+    refusals::refusal_15(address)?;
+    refusals::refusal_16(room, coding.frame_length(dropped_of(coding, level)))
 }
 
 // The frame sent, into a buffer with room for it: only the blocks that are kept are packed.
 fn write_voice(
     sseq: u8,
-    step: Step,
-    coding: u8,
-    noise: u8,
+    packet: Packet,
     samples: &[u8],
     level: usize,
     wait: usize,
     address: usize,
     out: &mut [u8],
 ) -> usize
-    requires { (send_refusal sseq step coding noise samples.now level wait address (length out.old) ≡ 0) × (wait < 2 ^ 32) }
-    ensures { (result ≡ length (send_written sseq step coding noise samples.now level wait address)) × (out.new ≡ send_written sseq step coding noise samples.now level wait address ++ drop result out.old) }
+    requires { (send_refusal sseq packet.step packet.coding.0 packet.noise samples.now level wait address (length out.old) ≡ 0) × (wait < 2 ^ 32) }
+    ensures { (result ≡ length (send_written sseq packet.step packet.coding.0 packet.noise samples.now level wait address)) × (out.new ≡ send_written sseq packet.step packet.coding.0 packet.noise samples.now level wait address ++ drop result out.old) }
 {
-    let s = octets::wide(Coding(coding).sample_bits());
-    let kept = octets::less(s, dropped_of(coding, level));
+    let step = packet.step;
+    let s = usize::from(packet.coding.sample_bits());
+    let kept = s.saturating_sub(dropped_of(packet.coding, level));
     let made = made_head(
-        coding,
-        more_sent(step),
-        sequence_sent(step, sseq),
-        noise,
+        packet.coding.0,
+        step.more_sent(),
+        step.sequence_sent(sseq),
+        packet.noise,
         address,
     );
     onward::put_head(&made, level, wait, address, out);
@@ -179,60 +192,34 @@ fn write_voice(
 }
 
 // A refused call leaves SSEQ and the buffer as they came; a taken one leaves the rest of the buffer so.
+#[tactic(auto, using(refusals::proofs::RefusalLaws::judged), unfolding(crate::specs::Send::send_answer, crate::specs::Send::send_buffer, crate::specs::Send::send_sseq, onward::specs::Sent::sent_answer, onward::specs::Sent::sent_buffer, onward::specs::Sent::sent_paper))]
 pub fn send(
     sseq: &mut u8,
-    step: Step,
-    coding: u8,
-    noise: u8,
+    packet: Packet,
     samples: &[u8],
-    level: u8,
-    from: u32,
-    to: u32,
-    address: u16,
+    hop: Hop,
     out: &mut [u8],
-) -> Sent
-    ensures answer { result ≡ send_answer sseq.old step coding noise samples.now level (wait_of from to) address out.old }
-    ensures buffer { out.new ≡ send_buffer sseq.old step coding noise samples.now level (wait_of from to) address out.old }
-    ensures sseq { sseq.new ≡ send_sseq sseq.old step coding noise samples.now level (wait_of from to) address (length out.old) }
+) -> Result<usize, Refusal>
+    ensures answer { sent_paper result ≡ send_answer sseq.old packet.step packet.coding.0 packet.noise samples.now hop.level (wait_of hop.from hop.to) hop.address out.old }
+    ensures buffer { out.new ≡ send_buffer sseq.old packet.step packet.coding.0 packet.noise samples.now hop.level (wait_of hop.from hop.to) hop.address out.old }
+    ensures sseq { sseq.new ≡ send_sseq sseq.old packet.step packet.coding.0 packet.noise samples.now hop.level (wait_of hop.from hop.to) hop.address (length out.old) }
 {
     let before = *sseq;
-    let refusal = send_refusal(
-        before,
-        step,
-        coding,
-        noise,
-        samples,
-        level as usize,
-        address as usize,
-        out.len(),
-    );
-    if refusal != 0 {
-        return Sent { refusal, length: 0 };
-    }
-    let wait = onward::wait_of(from, to);
-    let length = write_voice(
-        before,
-        step,
-        coding,
-        noise,
-        samples,
-        level as usize,
-        wait,
-        address as usize,
-        out,
-    );
-    *sseq = sseq_set(step, before);
-    Sent { refusal: 0, length }
+    let level = usize::from(hop.level);
+    let address = usize::from(hop.address);
+    send_refusal(before, packet, samples, level, address, out.len())?;
+    let length = write_voice(before, packet, samples, level, hop.wait(), address, out);
+    *sseq = packet.step.sseq_set(before);
+    Ok(length)
 }
 
-fn signal_refusal(bits: u8, na: u8, address: usize, room: usize) -> u8
-    ensures { (wait : ℕ) → result ≡ signal_refusal bits na wait address room }
+#[tactic(auto, using(refusals::proofs::RefusalLaws::judged, crate::proofs::SignalLaws::signal_length), unfolding(crate::specs::Signal::signal_refusal))]
+fn signal_refusal(bits: u8, na: u8, address: usize, room: usize) -> Result<(), Refusal>
+    ensures { (wait : ℕ) → refusal_of result ≡ signal_refusal bits na wait address room }
 {
-    let full = or_else(
-        refusals::refusal_15(address),
-        refusals::refusal_16(room, 10),
-    );
-    or_else(refusals::refusal_12(bits, na), full)
+    refusals::refusal_12(bits, na)?;
+    refusals::refusal_15(address)?;
+    refusals::refusal_16(room, 10)
 }
 
 // The signalling frame, into a buffer with room for it: it has no block to drop.
@@ -246,16 +233,13 @@ fn write_signal(bits: u8, na: u8, wait: usize, address: usize, out: &mut [u8]) -
     10
 }
 
-// A refused call leaves the buffer as it came; a taken one leaves the rest of it so.
-pub fn signal(bits: u8, na: u8, from: u32, to: u32, address: u16, out: &mut [u8]) -> Sent
-    ensures answer { result ≡ signal_answer bits na (wait_of from to) address out.old }
-    ensures buffer { out.new ≡ signal_buffer bits na (wait_of from to) address out.old }
+// A refused call leaves the buffer as it came; a taken one leaves the rest of it so. There is nothing to drop, so the level does not matter.
+#[tactic(auto, using(refusals::proofs::RefusalLaws::judged), unfolding(crate::specs::Signal::signal_answer, crate::specs::Signal::signal_buffer, onward::specs::Sent::sent_answer, onward::specs::Sent::sent_buffer, onward::specs::Sent::sent_paper))]
+pub fn signal(bits: u8, na: u8, hop: Hop, out: &mut [u8]) -> Result<usize, Refusal>
+    ensures answer { sent_paper result ≡ signal_answer bits na (wait_of hop.from hop.to) hop.address out.old }
+    ensures buffer { out.new ≡ signal_buffer bits na (wait_of hop.from hop.to) hop.address out.old }
 {
-    let refusal = signal_refusal(bits, na, address as usize, out.len());
-    if refusal != 0 {
-        return Sent { refusal, length: 0 };
-    }
-    let wait = onward::wait_of(from, to);
-    let length = write_signal(bits, na, wait, address as usize, out);
-    Sent { refusal: 0, length }
+    let address = usize::from(hop.address);
+    signal_refusal(bits, na, address, out.len())?;
+    Ok(write_signal(bits, na, hop.wait(), address, out))
 }

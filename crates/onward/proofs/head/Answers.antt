@@ -16,9 +16,9 @@ head_is level wait addr f a b e s p q r t =
 
 pub returns : goal.returns
 returns c =
-    let k6 = c.stamp_after-sixth in
-    let k5 = c.octet_5-fifth in
-    let k2 = c.octet_2-second in
-    let k1 = c.octet_1-first in
+    let k6 = c.stamp_after in
+    let k5 = c.octet_5 in
+    let k2 = c.octet_2 in
+    let k1 = c.octet_1 in
     let a = c.args in
     head_is a.level a.wait a.address a.frame.now k1.result k2.result k5.result k6.result k1.ensures k2.ensures k5.ensures k6.ensures
