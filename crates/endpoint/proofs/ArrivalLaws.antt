@@ -1,6 +1,6 @@
 -- An arrival is the decision on the frame's fields: the laws of the decision, over the octets.
 use Prim.Native.Nat.{ℕ, suc, ◌+◌, ◌≤◌}
-use mathlib.Core.Path.{◌≡◌, refl, sym, ap, ap₂, ◌∙◌}
+use mathlib.Core.Path.{◌≡◌, refl, sym, ap, ◌∙◌}
 use mathlib.Core.Bool.{Bool, true, false, cond, ◌||◌}
 use lib.Dec.{ltb, eqb}
 use mathlib.Core.List.{List}
@@ -12,15 +12,11 @@ use Rattle.refusals.specs.Refusals.{◌or_else◌, refuse, if_taken}
 use Rattle.refusals.proofs.RefusalLaws.{or_else_take, or_else_assoc}
 use Rattle.frame.specs.Orders.{voice_refusal}
 use Rattle.playout.specs.declared.Endpoint.{Endpoint}
-use Rattle.playout.specs.declared.Decision.{Decision}
-use Rattle.endpoint.specs.declared.Told.{Told}
-use Rattle.endpoint.specs.declared.Outcome.{Outcome}
-use Rattle.endpoint.specs.declared.Arrived.{Arrived}
 use Rattle.playout.specs.Counts.{stopped, late_after, missing_between}
-use Rattle.playout.specs.Play.{clock_limit, record_bad, refusal14, refusal18, due_at, play_refusal, rseq_after, after_scheduled, still_stores, after_refused, decision}
+use Rattle.playout.specs.Play.{Decided, clock_limit, record_bad, refusal14, refusal18, due_at, play_refusal, rseq_after, after_scheduled, still_stores, after_refused}
 use Rattle.endpoint.specs.Read.{heard_of, read_answer}
-use Rattle.endpoint.specs.Arrival.{reset_of, frame_decision, arrival_by, arrival_of}
-use Rattle.endpoint.specs.Outcome.{told_of, outcome_of}
+use Rattle.endpoint.specs.Arrival.{frame_decision, arrival_by, arrival_of}
+use Rattle.endpoint.specs.Outcome.{Outcome, outcome_of}
 use Rattle.endpoint.specs.Calls.{is_received}
 use Rattle.playout.proofs.PlayLaws.{by_decision, first_stands, decided_with, decided_number, decided_scheduled, decided_ranged, decided_near, decided_ahead, decided_apart, decided_left, decided_readable, still_stores_lem, stores_nothing, refused_stores, refused_keeps}
 use Rattle.endpoint.proofs.ReadLaws.{read_is}
@@ -33,28 +29,14 @@ early_stores_nothing e clock = go (record_bad e) (ltb clock e.lastclock || ltb c
   go false true = refl
   go false false = refl
 
--- an arrival put together of its outcome and what is heard
-abbrev arrived_with : Outcome → List ℕ → Arrived
-arrived_with o l = record {
-  answer = record { refusal = o.refusal; due = o.due; reset = o.reset; s = o.s; dropped = o.dropped; width = o.width; samples = l };
-  after = o.after;
-}
-
 module _ (e : Endpoint) (f : List ℕ) (clock : ℕ) where
-  -- the decision on numbers that are the frame's fields
-  pub decided_fields : (given late seq more level : ℕ) (d : Decision)
-      → given ≡ voice_refusal f → late ≡ stamp f → seq ≡ sequence f → more ≡ more_bit f → level ≡ noise f
-      → d ≡ decision e clock given late seq more level → d ≡ frame_decision e f clock
-  unfolding frame_decision
-  decided_fields given late seq more level d p q r s t u = rw (← p, ← q, ← r, ← s, ← t) u
-
   pub arrival_readable : (frame_decision e f clock).refusal ≡ 0 → voice_refusal f ≡ 0
   unfolding frame_decision
   arrival_readable = decided_readable e clock (voice_refusal f) (stamp f) (sequence f) (more_bit f) (noise f)
 
   -- refused by a number that stores nothing, before the turn of the frame is judged
   pub decided_unstored : (first : ℕ) → first ≡ refusal14 e or_else refusal18 e clock or_else voice_refusal f → (first ≡ 0 → ⊥) → still_stores first ≡ false
-      → ◌≡◌ {A = Decision} (record { refusal = first; due = 0; after = e }) (frame_decision e f clock)
+      → ◌≡◌ {A = Decided} (record { refusal = first; due = 0; after = e }) (frame_decision e f clock)
   unfolding frame_decision
   decided_unstored first p h none =
       decided_with e clock (voice_refusal f) (stamp f) (sequence f) (more_bit f) (noise f) first (record { refusal = first; due = 0; after = e })
@@ -63,27 +45,16 @@ module _ (e : Endpoint) (f : List ℕ) (clock : ℕ) where
 
   -- as by the record or the clock
   pub decided_early : (first : ℕ) → first ≡ refusal14 e or_else refusal18 e clock → (first ≡ 0 → ⊥)
-      → ◌≡◌ {A = Decision} (record { refusal = first; due = 0; after = e }) (frame_decision e f clock)
+      → ◌≡◌ {A = Decided} (record { refusal = first; due = 0; after = e }) (frame_decision e f clock)
   decided_early first p h =
       decided_unstored first
       (or_else_take (refusal14 e or_else refusal18 e clock) (voice_refusal f) first p h ∙ sym (or_else_assoc (refusal14 e) (refusal18 e clock) (voice_refusal f))) h
       (ap still_stores p ∙ early_stores_nothing e clock)
 
-  pub outcome_is : (d : Decision) (t : Told) (reset : ℕ) → d ≡ frame_decision e f clock → t ≡ told_of (heard_of d.refusal f) → reset ≡ reset_of d.refusal f
-      → ◌≡◌ {A = Outcome} (record { refusal = d.refusal; due = d.due; reset = reset; s = t.s; dropped = t.dropped; width = t.width; after = d.after }) (outcome_of (arrival_of e f clock))
-  unfolding arrival_of arrival_by
-  outcome_is d t reset p q r =
-      ap₂ (λ (x : Told) (y : ℕ). record { refusal = d.refusal; due = d.due; reset = y; s = x.s; dropped = x.dropped; width = x.width; after = d.after }) q r
-      ∙ ap (λ (x : Decision). outcome_of (arrival_by x f)) p
-
   -- where the outcome is 0, the frame can be read
   pub outcome_readable : (o : Outcome) → o ≡ outcome_of (arrival_of e f clock) → o.refusal ≡ 0 → voice_refusal f ≡ 0
   unfolding arrival_of arrival_by
   outcome_readable o p z = arrival_readable (sym (ap (λ (x : Outcome). x.refusal) p) ∙ z)
-
-  pub arrived_is : (o : Outcome) (l : List ℕ) → o ≡ outcome_of (arrival_of e f clock) → l ≡ (heard_of o.refusal f).samples → arrived_with o l ≡ arrival_of e f clock
-  unfolding arrival_of arrival_by
-  arrived_is o l p q = ap (arrived_with o) q ∙ ap (λ (x : Outcome). arrived_with x (heard_of x.refusal f).samples) p
 
   pub arrival_ranged : refusal14 e ≡ 0 → refusal14 (arrival_of e f clock).after ≡ 0
   unfolding arrival_of arrival_by frame_decision
@@ -125,14 +96,14 @@ module _ (e : Endpoint) (f : List ℕ) (clock : ℕ) where
       }
   arrival_stored h =
       arrival_left (⊎_elim (λ p z. omega arith) (λ p z. omega arith) h)
-      ∙ ap (λ (d : Decision). d.after) (refused_stores e (arrival_of e f clock).answer.refusal (more_bit f) (noise f) (still_stores_lem (arrival_of e f clock).answer.refusal h))
+      ∙ ap (λ (d : Decided). d.after) (refused_stores e (arrival_of e f clock).answer.refusal (more_bit f) (noise f) (still_stores_lem (arrival_of e f clock).answer.refusal h))
 
   -- every other refusal leaves the whole record
   pub arrival_kept : ((arrival_of e f clock).answer.refusal ≡ 0 → ⊥) → ((arrival_of e f clock).answer.refusal ≡ 17 → ⊥) → ((arrival_of e f clock).answer.refusal ≡ 20 → ⊥)
       → (arrival_of e f clock).after ≡ e
   arrival_kept h p q =
       arrival_left h
-      ∙ ap (λ (d : Decision). d.after) (refused_keeps e (arrival_of e f clock).answer.refusal (more_bit f) (noise f) (stores_nothing (arrival_of e f clock).answer.refusal p q))
+      ∙ ap (λ (d : Decided). d.after) (refused_keeps e (arrival_of e f clock).answer.refusal (more_bit f) (noise f) (stores_nothing (arrival_of e f clock).answer.refusal p q))
 
   -- M_LAST and the last noise are set by a packet that counts as received, and by no other
   pub arrival_last : ((arrival_of e f clock).after.mlast ≡ cond (is_received (arrival_of e f clock).answer.refusal) (more_bit f) e.mlast)

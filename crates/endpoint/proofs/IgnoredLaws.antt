@@ -15,8 +15,7 @@ use Rattle.frame.specs.Ignored.{with_ignored}
 use Rattle.frame.proofs.FrameLaws.{by_link, by_kind, voice_taken}
 use Rattle.frame.proofs.IgnoredLaws.{same_m, same_c, same_stamp, same_more, same_coding, same_sequence, same_na, same_bits, same_field, same_voice_refusal, same_signal_refusal}
 use Rattle.playout.specs.declared.Endpoint.{Endpoint}
-use Rattle.playout.specs.declared.Decision.{Decision}
-use Rattle.playout.specs.Play.{refusal14, refusal18, still_stores}
+use Rattle.playout.specs.Play.{Decided, refusal14, refusal18, still_stores}
 use Rattle.endpoint.specs.Read.{width_of, samples_of, heard_of, read_answer}
 use Rattle.endpoint.specs.Arrival.{frame_decision, reset_of, arrival_by, arrival_of}
 use Rattle.endpoint.specs.Signal.{signal_order, signal_answer}
@@ -65,7 +64,7 @@ module _ (g f : List ℕ) where
   reset_same zero h = let v = (voice_taken f (h refl)).1 in simp (same_sequence g f v, same_coding g f v)
   reset_same (suc n) h = refl
 
-  by_same : (d : Decision) → (d.refusal ≡ 0 → voice_refusal f ≡ 0) → arrival_by d (with_ignored g f) ≡ arrival_by d f
+  by_same : (d : Decided) → (d.refusal ≡ 0 → voice_refusal f ≡ 0) → arrival_by d (with_ignored g f) ≡ arrival_by d f
   unfolding arrival_by
   by_same d h = rw (heard_same d.refusal h, reset_same d.refusal h)
 
@@ -87,7 +86,7 @@ module _ (g f : List ℕ) where
     pub arrival_ignores : (e : Endpoint) (clock : ℕ) → arrival_of e (with_ignored g f) clock ≡ arrival_of e f clock
     unfolding arrival_of
     arrival_ignores e clock =
-        ap (λ (d : Decision). arrival_by d (with_ignored g f)) (decided_same e clock) ∙ by_same (frame_decision e f clock) (arrival_readable e f clock)
+        ap (λ (d : Decided). arrival_by d (with_ignored g f)) (decided_same e clock) ∙ by_same (frame_decision e f clock) (arrival_readable e f clock)
 
     pub signal_ignores : (b : ℕ) → signal_answer b (with_ignored g f) ≡ signal_answer b f
     unfolding signal_answer signal_order

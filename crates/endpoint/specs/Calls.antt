@@ -2,15 +2,14 @@
 use Rattle.std.specs.Prelude.{ℕ, ◌+◌, ◌≤◌, Bool, cond, ◌||◌, List, [], ◌∷◌, eqb}
 use Rattle.refusals.specs.Refusals.{if_taken}
 use Rattle.playout.specs.declared.Endpoint.{Endpoint}
-use Rattle.endpoint.specs.declared.Arrived.{Arrived}
 use Rattle.playout.specs.Play.{still_stores}
-use Rattle.endpoint.specs.Arrival.{arrival_of}
+use Rattle.endpoint.specs.Arrival.{Moved, arrival_of}
 
 pub record Call : Type 0 where
   pub frame : List ℕ
   pub clock : ℕ
 
-abbrev pub arrival_at : Endpoint → Call → Arrived
+abbrev pub arrival_at : Endpoint → Call → Moved
 arrival_at e c = arrival_of e c.frame c.clock
 
 unfoldable pub record_after : Endpoint → List Call → Endpoint

@@ -1,11 +1,25 @@
 -- Document 01, "Blocks", amended by request A9: what the voice reader answers. Reading starts from 128 samples of zero and adds the blocks present.
-use Rattle.std.specs.Prelude.{ℕ, ◌-◌, List, drop, replicate}
-use Rattle.refusals.specs.Refusals.{if_taken}
+use Rattle.std.specs.Prelude.{ℕ, ◌-◌, List, drop, replicate, Result, Ok, Err}
+use Rattle.refusals.specs.Refusals.{if_taken, number}
+use Rattle.refusals.specs.declared.Refusal.{Refusal}
 use Rattle.coding.specs.Coding.{sample_bits}
 use Rattle.blocks.specs.Blocks.{samples}
 use Rattle.frame.specs.Fields.{field_m, field_c, coding}
 use Rattle.frame.specs.Orders.{voice_refusal}
-use Rattle.endpoint.specs.declared.Heard.{Heard}
+use Rattle.endpoint.specs.declared.Words.{Words}
+
+-- the number, or 0 and what is heard
+pub record Heard : Type 0 where
+  pub refusal : ℕ
+  pub s : ℕ
+  pub dropped : ℕ
+  pub width : ℕ
+  pub samples : List ℕ
+
+-- the paper's number and values for each case
+unfoldable pub heard_paper : Result Words Refusal → Heard
+heard_paper (Ok a) = record { refusal = 0; s = a.s; dropped = a.dropped; width = a.width; samples = a.samples }
+heard_paper (Err r) = record { refusal = number r; s = 0; dropped = 0; width = 0; samples = replicate 128 0 }
 
 -- S
 abbrev pub bits_of : List ℕ → ℕ

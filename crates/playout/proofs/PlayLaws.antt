@@ -1,14 +1,13 @@
 -- What is known of a record in range, of a frame that is scheduled and of one that is refused, and that each keeps the record in range.
-use Rattle.std.proofs.Common.{◌≡◌, ℕ, zero, suc, ◌+◌, ◌-◌, ◌<◌, ◌≤◌, max, Bool, true, false, cond, ◌&&◌, eqb, ltb, leb, ◌⊎◌, sym, refl, ap, ◌∙◌, subst, ap₂, ⊎_elim, le_refl, le_of_lt, arith, ltb-false, ltb-true, le-ltb, lt-ltb, ne_eqb, leb-false}
-use native.Mathlib.Nat.{le-max_left, le-max_right, max-eq_left, max-eq_right}
+use Rattle.std.proofs.Common.{◌≡◌, ℕ, zero, suc, ◌+◌, ◌≤◌, max, Bool, true, false, cond, ◌&&◌, eqb, ltb, leb, ◌⊎◌, sym, refl, ap, ◌∙◌, subst, ⊎_elim, le_refl, arith, ltb-false, le-ltb, ne_eqb, leb-false}
+use native.Mathlib.Nat.{le-max_left, le-max_right}
 use Rattle.octets.specs.Sequence.{next_number}
 use Rattle.octets.proofs.BoolLaws.{or_false}
-use Rattle.refusals.specs.Refusals.{◌or_else◌, refuse}
-use Rattle.refusals.proofs.RefusalLaws.{or_else_zero, or_else_assoc, or_else_take, or_else_pass, refuse_zero, if_taken_lem, if_refused}
+use Rattle.refusals.specs.Refusals.{◌or_else◌}
+use Rattle.refusals.proofs.RefusalLaws.{or_else_zero, or_else_assoc, or_else_take, refuse_zero, if_taken_lem, if_refused}
 use Rattle.playout.specs.declared.Endpoint.{Endpoint}
-use Rattle.playout.specs.declared.Decision.{Decision}
 use Rattle.playout.specs.Counts.{late_after}
-use Rattle.playout.specs.Play.{fresh_record, clock_limit, record_bad, refusal14, refusal18, in_turn, hold, due_at, refusal17, refusal20, play_refusal, rseq_after, after_scheduled, scheduled_at, still_stores, after_refused, refused_with, decision}
+use Rattle.playout.specs.Play.{Decided, fresh_record, clock_limit, record_bad, refusal14, refusal18, in_turn, hold, due_at, refusal17, refusal20, play_refusal, rseq_after, after_scheduled, scheduled_at, still_stores, after_refused, refused_with, decision}
 
 -- what 14 does not refuse
 pub record InRange (e : Endpoint) : Type 0 where
@@ -53,13 +52,6 @@ pub fresh_ranged : (b : ℕ) → b ≤ 199 → refusal14 (fresh_record b) ≡ 0
 fresh_ranged b h =
     range_in (fresh_record b)
     (record { rseq_low = omega arith; buildout_low = h; mlast_low = omega arith; noise_low = omega arith; clock_low = omega arith; end_near = omega arith })
-
--- a time is past a sum where the difference is past the second part
-pub past_sum : (t from ms : ℕ) → from < t → ltb ms (t - from) ≡ ltb (from + ms) t
-past_sum t from ms h = go (ltb (from + ms) t) refl where
-  go : (b : Bool) → ltb (from + ms) t ≡ b → ltb ms (t - from) ≡ b
-  go true e = lt-ltb ms (t - from) (omega (arith, ltb-true (from + ms) t e))
-  go false e = le-ltb ms (t - from) (omega (arith, ltb-false (from + ms) t e))
 
 next_low : (seq : ℕ) → next_number seq ≤ 15
 next_low seq = go (leb 15 seq) refl where
@@ -126,21 +118,6 @@ module _ (e : Endpoint) (clock : ℕ) where
     go true h = ltb-false e.end clock h
     go false h = omega (arith, le-max_left (clock + hold e.buildout stamp) e.end)
 
-  -- the due time that a frame in turn has, and the two that any other may have
-  module _ (stamp seq : ℕ) (turn : Bool) (is : turn ≡ in_turn e seq) where
-    pub due_turn : turn ≡ true → e.end ≡ due_at e clock stamp seq
-    unfolding due_at
-    due_turn t = rw (sym is ∙ t)
-
-    pub due_end : (held : ℕ) → held ≡ hold e.buildout stamp → turn ≡ false → clock + held ≤ e.end → e.end ≡ due_at e clock stamp seq
-    unfolding due_at
-    due_end held h t l = rw (sym is ∙ t) (sym (max-eq_right {n = clock + hold e.buildout stamp} {m = e.end} (rw h at l)))
-
-    pub due_held : (held : ℕ) → held ≡ hold e.buildout stamp → turn ≡ false → e.end < clock + held → clock + held ≡ due_at e clock stamp seq
-    unfolding due_at
-    due_held held h t l =
-        rw (sym is ∙ t) (ap (λ (x : ℕ). clock + x) h ∙ sym (max-eq_left {n = clock + hold e.buildout stamp} {m = e.end} (le_of_lt (rw h at l))))
-
   module _ (given stamp seq : ℕ) where
     pub scheduled : play_refusal e clock given stamp seq ≡ 0 → Scheduled e clock given stamp seq
     unfolding play_refusal
@@ -174,23 +151,8 @@ module _ (e : Endpoint) (clock : ℕ) where
         ap (λ (n : ℕ). refusal14 e or_else n) (or_else_assoc (refusal18 e clock) given last)
         ∙ or_else_assoc (refusal14 e) (refusal18 e clock or_else given) last
 
-    pub first_early : first ≡ 0 → clock ≤ clock_limit
-    first_early z = (clocked (or_else_zero (refusal18 e clock) given (or_else_zero (refusal14 e) _ z).1).0).1
-
-    -- the same two, of numbers that were judged one by one
-    pub first_is : (a b m n : ℕ) → a ≡ refusal14 e → b ≡ refusal18 e clock → m ≡ b or_else given → n ≡ a or_else m → n ≡ first
-    first_is a b m n p q r s = s ∙ ap₂ ◌or_else◌ p (r ∙ ap (λ (x : ℕ). x or_else given) q)
-
-    pub last_is : (due late far n : ℕ) (long : Bool) → due ≡ due_at e clock stamp seq → late ≡ refusal17 e clock stamp seq
-        → long ≡ ltb (clock + 439) due → far ≡ refuse long 20 → n ≡ late or_else far → n ≡ last
-    last_is due late far n long p q r s t =
-        t ∙ ap₂ ◌or_else◌ q (s ∙ ap (λ (b : Bool). refuse b 20) (r ∙ ap (ltb (clock + 439)) p))
-
     pub first_stands : (n : ℕ) → n ≡ first → (n ≡ 0 → ⊥) → n ≡ play_refusal e clock given stamp seq
     first_stands n p h = or_else_take first last n p h ∙ sym first_last
-
-    pub last_stands : (m n : ℕ) → m ≡ first → m ≡ 0 → n ≡ last → n ≡ play_refusal e clock given stamp seq
-    last_stands m n p z q = or_else_pass first last m n p z q ∙ sym first_last
 
     -- what `scheduled` asks of the record and the due time
     pub due_fits : (due : ℕ) → due ≡ due_at e clock stamp seq → play_refusal e clock given stamp seq ≡ 0 → (due ≤ clock_limit + 439) × (e.rseq ≤ 15)
@@ -217,10 +179,6 @@ module _ (e : Endpoint) (clock : ℕ) where
       unfolding decision
       decided_scheduled z = if_taken_lem (play_refusal e clock given stamp seq) _ _ z
 
-      pub decided_at : (due : ℕ) (d : Decision) → due ≡ due_at e clock stamp seq → play_refusal e clock given stamp seq ≡ 0
-          → d ≡ scheduled_at e clock seq more noise due → d ≡ decision e clock given stamp seq more noise
-      decided_at due d p z q = q ∙ ap (scheduled_at e clock seq more noise) p ∙ sym (decided_scheduled z)
-
       pub decided_refused : (n : ℕ) → n ≡ play_refusal e clock given stamp seq → (n ≡ 0 → ⊥)
           → decision e clock given stamp seq more noise ≡ refused_with e n more noise
       unfolding decision
@@ -228,12 +186,12 @@ module _ (e : Endpoint) (clock : ℕ) where
           if_refused (play_refusal e clock given stamp seq) _ _ (λ z. h (p ∙ z))
           ∙ ap (λ (k : ℕ). refused_with e k more noise) (sym p)
 
-      pub decided_with : (n : ℕ) (d : Decision) → n ≡ play_refusal e clock given stamp seq → (n ≡ 0 → ⊥)
+      pub decided_with : (n : ℕ) (d : Decided) → n ≡ play_refusal e clock given stamp seq → (n ≡ 0 → ⊥)
           → d ≡ refused_with e n more noise → d ≡ decision e clock given stamp seq more noise
       decided_with n d p h q = q ∙ sym (decided_refused n p h)
 
       -- whatever holds of a scheduled frame, and of every refusal, holds of the decision
-      pub by_decision : (P : Decision → Type 0)
+      pub by_decision : (P : Decided → Type 0)
           → (play_refusal e clock given stamp seq ≡ 0
           → P (scheduled_at e clock seq more noise (due_at e clock stamp seq)))
           → ((n : ℕ) → suc n ≡ play_refusal e clock given stamp seq → P (refused_with e (suc n) more noise))

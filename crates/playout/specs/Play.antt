@@ -1,10 +1,26 @@
 -- Document 01, "Play-out", and numbers 14, 17, 18 and 20 of "Refusal numbers", amended by requests A2 and A10: the decision over a frame's plain fields and the endpoint's record.
-use Rattle.std.specs.Prelude.{ℕ, ◌+◌, ◌-◌, ◌^◌, max, Bool, cond, not, ◌&&◌, ◌||◌, ◌==◌, nat_lt}
+use Rattle.std.specs.Prelude.{◌≡◌, ℕ, ◌+◌, ◌-◌, ◌^◌, max, Bool, cond, not, ◌&&◌, ◌||◌, ◌==◌, nat_lt, Result, Ok, Err, IfOk}
 use Rattle.octets.specs.Sequence.{next_number}
-use Rattle.refusals.specs.Refusals.{◌or_else◌, refuse, if_taken}
+use Rattle.refusals.specs.Refusals.{◌or_else◌, refuse, if_taken, refusal_of}
+use Rattle.refusals.specs.declared.Refusal.{Refusal}
 use Rattle.playout.specs.declared.Endpoint.{Endpoint}
 use Rattle.playout.specs.declared.Decision.{Decision}
 use Rattle.playout.specs.Counts.{stopped, late_after, missing_between}
+
+-- what is decided of a frame: its number, or 0 and when it is due; and the record after it
+pub record Decided : Type 0 where
+  pub refusal : ℕ
+  pub due : ℕ
+  pub after : Endpoint
+
+-- when a frame is due, 0 where it is refused
+abbrev pub due_of : Result ℕ Refusal → ℕ
+due_of (Ok due) = due
+due_of (Err r) = 0
+
+-- the paper's number and values
+unfoldable pub decision_paper : Decision → Decided
+decision_paper d = record { refusal = refusal_of d.due; due = due_of d.due; after = d.after }
 
 -- fresh, all but B are 0
 abbrev pub fresh_record : ℕ → Endpoint
@@ -67,6 +83,10 @@ unfoldable pub play_refusal : Endpoint → ℕ → ℕ → ℕ → ℕ → ℕ
 play_refusal e clock given stamp seq =
     refusal14 e or_else refusal18 e clock or_else given or_else refusal17 e clock stamp seq or_else refusal20 e clock stamp seq
 
+-- of what is not refused, when it is due
+abbrev pub Due : Endpoint → ℕ → ℕ → ℕ → Result ℕ Refusal → Type 0
+Due e clock stamp seq r = IfOk r (λ due. due ≡ due_at e clock stamp seq)
+
 -- RSEQ after a frame: the next number if its more bit is 1, else 0
 abbrev pub rseq_after : ℕ → ℕ → ℕ
 rseq_after seq more = cond (more == 1) (next_number seq) 0
@@ -85,7 +105,7 @@ after_scheduled e clock seq more noise due = record {
   missing = stopped (e.missing + missing_between e.rseq seq);
 }
 
-abbrev pub scheduled_at : Endpoint → ℕ → ℕ → ℕ → ℕ → ℕ → Decision
+abbrev pub scheduled_at : Endpoint → ℕ → ℕ → ℕ → ℕ → ℕ → Decided
 scheduled_at e clock seq more noise due = record { refusal = 0; due = due; after = after_scheduled e clock seq more noise due }
 
 -- A2: a frame refused with 17 or 20 still stores its more bit and noise
@@ -106,10 +126,10 @@ after_refused e n more noise = record {
   missing = e.missing;
 }
 
-abbrev pub refused_with : Endpoint → ℕ → ℕ → ℕ → Decision
+abbrev pub refused_with : Endpoint → ℕ → ℕ → ℕ → Decided
 refused_with e n more noise = record { refusal = n; due = 0; after = after_refused e n more noise }
 
-unfoldable pub decision : Endpoint → ℕ → ℕ → ℕ → ℕ → ℕ → ℕ → Decision
+unfoldable pub decision : Endpoint → ℕ → ℕ → ℕ → ℕ → ℕ → ℕ → Decided
 decision e clock given stamp seq more noise =
     if_taken (play_refusal e clock given stamp seq)
     (scheduled_at e clock seq more noise (due_at e clock stamp seq))

@@ -2,19 +2,18 @@
 #![tactic(auto)]
 
 ghost use Rattle.std.specs.Prelude.{◌≡◌, ◌+◌, ◌≤◌, nat_lt};
-ghost use Rattle.playout.specs.Counts.{stopped, missing_between};
-ghost use Rattle.playout.specs.Play.{clock_limit, buildout_bad, refusal14, refusal18, in_turn, hold, due_at, stamp_late, refusal17, rseq_after, scheduled_at, refused_with, decision};
+ghost use Rattle.refusals.specs.Refusals.{number, refusal_of};
+ghost use Rattle.playout.specs.Counts.{missing_between};
+ghost use Rattle.playout.specs.Play.{clock_limit, buildout_bad, refusal14, refusal18, in_turn, hold, due_at, stamp_late, refusal17, play_refusal, Due, rseq_after, scheduled_at, refused_with, decision, decision_paper};
 
 use octets::next_number;
-use refusals::{or_else, refuse};
+use refusals::{Refusal, refuse};
 
 // The play clock is a count of ms up to 2^62.
-const CLOCK_LIMIT: u64 = 4611686018427387904;
+const CLOCK_LIMIT: u64 = 1 << 62;
 
-// Each count stops at 2^32-1.
-const COUNT_LIMIT: u32 = 4294967295;
-
-#[derive(Clone, Copy)]
+// `mlast` is a number, since one above 1 is out of range (14).
+#[derive(Clone, Copy, Debug, PartialEq, Eq)]
 pub struct Endpoint {
     pub buildout: u8,
     pub rseq: u8,
@@ -27,11 +26,10 @@ pub struct Endpoint {
     pub missing: u32,
 }
 
-// What is decided of a frame by its fields, and the record after it.
-#[derive(Clone, Copy)]
+// What is decided of a frame by its fields, and the record after it, which a refused frame may change too.
+#[derive(Clone, Copy, Debug, PartialEq, Eq)]
 pub struct Decision {
-    pub refusal: u8,
-    pub due: u64,
+    pub due: Result<u64, Refusal>,
     pub after: Endpoint,
 }
 
@@ -39,7 +37,7 @@ pub struct Decision {
 fn past(t: u64, from: u64, ms: u64) -> bool
     ensures { result ≡ nat_lt (from + ms) t }
 {
-    if from < t { ms < t - from } else { false }
+    ms < t.saturating_sub(from)
 }
 
 pub fn buildout_bad(buildout: u8) -> bool
@@ -48,8 +46,10 @@ pub fn buildout_bad(buildout: u8) -> bool
     199 < buildout
 }
 
-pub fn refusal_14(e: Endpoint) -> u8
-    ensures { result ≡ refusal14 e }
+// The tests are joined by `|`, here and below: a frame that comes is mostly taken, and then all of them are made.
+#[tactic(auto, unfolding(crate::specs::Play::record_bad))]
+pub fn refusal_14(e: Endpoint) -> Result<(), Refusal>
+    ensures { refusal_of result ≡ refusal14 e }
 {
     let long = past(e.end, e.lastclock, 455);
     let bad = (15 < e.rseq)
@@ -58,29 +58,29 @@ pub fn refusal_14(e: Endpoint) -> u8
         | (15 < e.lastnoise)
         | (CLOCK_LIMIT < e.lastclock)
         | long;
-    refuse(bad, 14)
+    refuse(bad, Refusal::Record)
 }
 
-pub fn refusal_18(e: Endpoint, clock: u64) -> u8
-    ensures { result ≡ refusal18 e clock }
+pub fn refusal_18(e: Endpoint, clock: u64) -> Result<(), Refusal>
+    ensures { refusal_of result ≡ refusal18 e clock }
 {
-    refuse((clock < e.lastclock) | (CLOCK_LIMIT < clock), 18)
+    refuse(
+        (clock < e.lastclock) | (CLOCK_LIMIT < clock),
+        Refusal::Clock,
+    )
 }
 
+#[tactic(auto, unfolding(crate::specs::Play::in_turn))]
 fn in_turn(e: Endpoint, seq: u8) -> bool
     ensures { result ≡ in_turn e seq }
 {
-    (seq != 0) & (seq == e.rseq)
+    seq != 0 && seq == e.rseq
 }
 
 pub fn hold(buildout: u8, stamp: u8) -> u8
     ensures { result ≡ hold buildout stamp }
 {
-    if stamp <= buildout {
-        buildout - stamp
-    } else {
-        0
-    }
+    buildout.saturating_sub(stamp)
 }
 
 pub fn stamp_late(buildout: u8, stamp: u8) -> bool
@@ -89,26 +89,25 @@ pub fn stamp_late(buildout: u8, stamp: u8) -> bool
     buildout < stamp
 }
 
-// `decide` has refused a clock above the limit.
+// `due_time` has refused a clock above the limit.
+#[tactic(auto, unfolding(crate::specs::Play::due_at))]
 fn due_at(e: Endpoint, clock: u64, stamp: u8, seq: u8) -> u64
     requires { clock ≤ clock_limit }
     ensures { result ≡ due_at e clock stamp seq }
 {
-    let end = e.end;
     if in_turn(e, seq) {
-        return end;
+        e.end
+    } else {
+        e.end.max(clock + u64::from(hold(e.buildout, stamp)))
     }
-    let held = hold(e.buildout, stamp);
-    let t = clock + (held as u64);
-    if t <= end { end } else { t }
 }
 
-fn refusal_17(e: Endpoint, clock: u64, stamp: u8, seq: u8) -> u8
-    ensures { result ≡ refusal17 e clock stamp seq }
+fn refusal_17(e: Endpoint, clock: u64, stamp: u8, seq: u8) -> Result<(), Refusal>
+    ensures { refusal_of result ≡ refusal17 e clock stamp seq }
 {
     refuse(
         stamp_late(e.buildout, stamp) | (in_turn(e, seq) & (e.end < clock)),
-        17,
+        Refusal::Late,
     )
 }
 
@@ -118,100 +117,105 @@ fn rseq_after(seq: u8, more: u8) -> u8
     if more == 1 { next_number(seq) } else { 0 }
 }
 
-// A count that has grown. A sum that rolled over is below what was added to.
-fn counted(count: u32, more: u32) -> u32
-    ensures { result ≡ stopped (count + more) }
-{
-    let sum = std::num::wrapping_add_u32(count, more);
-    if sum < count { COUNT_LIMIT } else { sum }
-}
-
 // `decide` has refused an RSEQ above 15.
+#[tactic(auto, unfolding(crate::specs::Counts::missing_between))]
 fn missing_between(r: u8, s: u8) -> u32
     requires { r ≤ 15 }
     ensures { result ≡ missing_between r s }
 {
-    let s = s as u32;
-    if r == 0 {
-        return s;
+    match (r, s) {
+        (0, _) => u32::from(s),
+        (_, 0) => 1,
+        _ => {
+            let went_on = (u32::from(s) + 15 - u32::from(r)) % 15;
+            let began = u32::from(s) + 1;
+            went_on.min(began)
+        }
     }
-    if s == 0 {
-        return 1;
-    }
-    let went_on = (s + 15 - (r as u32)) % 15;
-    let began = s + 1;
-    if went_on <= began { went_on } else { began }
+}
+
+// When the frame is due, or the first number of the order that refuses it.
+#[tactic(auto, using(refusals::proofs::RefusalLaws::judged), unfolding(crate::specs::Play::play_refusal))]
+fn due_time(
+    e: Endpoint,
+    clock: u64,
+    given: Result<(), Refusal>,
+    stamp: u8,
+    seq: u8,
+) -> Result<u64, Refusal>
+    ensures number { refusal_of result ≡ play_refusal e clock (refusal_of given) stamp seq }
+    ensures due { Due e clock stamp seq result }
+{
+    refusal_14(e)?;
+    refusal_18(e, clock)?;
+    given?;
+    let due = due_at(e, clock, stamp, seq);
+    refusal_17(e, clock, stamp, seq)?;
+    refuse(past(due, clock, 439), Refusal::TooFarAhead)?;
+    Ok(due)
 }
 
 // A frame that is late, or due too far ahead, was received all the same: it stores its more bit and noise. The late one is
 // counted.
-fn refused(e: Endpoint, n: u8, more: u8, noise: u8) -> Decision
-    ensures { result ≡ refused_with e n more noise }
+#[tactic(auto, unfolding(crate::specs::Play::decision_paper))]
+fn refused(e: Endpoint, refusal: Refusal, more: u8, noise: u8) -> Decision
+    ensures { decision_paper result ≡ refused_with e (number refusal) more noise }
 {
-    let mut left = e;
-    if (n == 17) | (n == 20) {
-        left.mlast = more;
-        left.lastnoise = noise;
-    }
-    let late = n == 17;
-    if late {
-        left.late = counted(e.late, 1);
-    }
+    let stored = Endpoint {
+        mlast: more,
+        lastnoise: noise,
+        ..e
+    };
+    let after = match refusal {
+        Refusal::Late => Endpoint {
+            late: e.late.saturating_add(1),
+            ..stored
+        },
+        Refusal::TooFarAhead => stored,
+        _ => e,
+    };
     Decision {
-        refusal: n,
-        due: 0,
-        after: left,
+        due: Err(refusal),
+        after,
     }
 }
 
 // `decide` has refused what is due later, and an RSEQ above 15.
+#[tactic(auto, unfolding(crate::specs::Play::decision_paper))]
 fn scheduled(e: Endpoint, clock: u64, seq: u8, more: u8, noise: u8, due: u64) -> Decision
     requires { (due ≤ clock_limit + 439) × (e.rseq ≤ 15) }
-    ensures { result ≡ scheduled_at e clock seq more noise due }
+    ensures { decision_paper result ≡ scheduled_at e clock seq more noise due }
 {
-    let next = rseq_after(seq, more);
-    let one_more = counted(e.scheduled, 1);
-    let gone = counted(e.missing, missing_between(e.rseq, seq));
     Decision {
-        refusal: 0,
-        due: due,
+        due: Ok(due),
         after: Endpoint {
-            buildout: e.buildout,
-            rseq: next,
+            rseq: rseq_after(seq, more),
             lastclock: clock,
             end: due + 16,
             mlast: more,
             lastnoise: noise,
-            scheduled: one_more,
-            late: e.late,
-            missing: gone,
+            scheduled: e.scheduled.saturating_add(1),
+            missing: e.missing.saturating_add(missing_between(e.rseq, seq)),
+            ..e
         },
     }
 }
 
-// The decision by the frame's fields; `given` is the number that the frame itself gives, or 0.
+// The decision by the frame's fields; `given` is what the frame itself gives.
+#[tactic(auto, using(refusals::proofs::RefusalLaws::judged, crate::proofs::PlayLaws::due_fits), unfolding(crate::specs::Play::decision))]
 pub fn decide(
     e: Endpoint,
     clock: u64,
-    given: u8,
+    given: Result<(), Refusal>,
     stamp: u8,
     seq: u8,
     more: u8,
     noise: u8,
 ) -> Decision
-    ensures { result ≡ decision e clock given stamp seq more noise }
+    ensures { decision_paper result ≡ decision e clock (refusal_of given) stamp seq more noise }
 {
-    let first = or_else(refusal_14(e), or_else(refusal_18(e, clock), given));
-    if first != 0 {
-        return refused(e, first, more, noise);
+    match due_time(e, clock, given, stamp, seq) {
+        Ok(due) => scheduled(e, clock, seq, more, noise, due),
+        Err(refusal) => refused(e, refusal, more, noise),
     }
-    let due = due_at(e, clock, stamp, seq);
-    let last = or_else(
-        refusal_17(e, clock, stamp, seq),
-        refuse(past(due, clock, 439), 20),
-    );
-    if last != 0 {
-        return refused(e, last, more, noise);
-    }
-    scheduled(e, clock, seq, more, noise, due)
 }
