@@ -1,6 +1,6 @@
 -- Document 02, A1: what a signalling frame tells the watch.
 use Rattle.refusals.specs.Refusals.{if_taken}
-use Rattle.endpoint.specs.declared.SignalHeard.{SignalHeard}
+use Rattle.endpoint.specs.Signal.{SignalHeard}
 use Rattle.watch.specs.declared.Event.{Event}
 use Rattle.watch.specs.declared.Event.TheVariants.{Passing, Frame}
 

@@ -2,17 +2,20 @@
 #![tactic(auto)]
 
 ghost use Rattle.std.specs.Prelude.{◌≡◌};
+ghost use Rattle.endpoint.specs.Signal.{signal_paper};
 ghost use Rattle.trunk.specs.Trunk.{event_of};
 
-use endpoint::SignalHeard;
+use endpoint::SignalFacts;
+use refusals::Refusal;
 use watch::Event;
 
 // A frame that the signalling reader refuses is not taken: only time has passed.
-pub fn event_of(heard: SignalHeard) -> Event
-    ensures { result ≡ event_of heard }
+#[tactic(auto, using(refusals::proofs::RefusalLaws::judged), unfolding(endpoint::specs::Signal::signal_paper))]
+pub fn event_of(heard: Result<SignalFacts, Refusal>) -> Event
+    ensures { result ≡ event_of (signal_paper heard) }
 {
-    if heard.refusal != 0 {
-        return Event::Passing;
+    match heard {
+        Ok(signal) => Event::Frame { na: signal.na },
+        Err(_) => Event::Passing,
     }
-    Event::Frame { na: heard.na }
 }

@@ -5,6 +5,7 @@ use mathlib.Core.Bool.{Bool, true, false, true≢false, cond}
 use native.Mathlib.Omega.{arith}
 use lib.Dec.{ltb, leb, eqb}
 use borrow.Author.Tests.{eqb-true, eqb-false, ltb-false, le-ltb, leb-false, le-leb}
+use Rattle.std.proofs.lemmas.Bool.{cond_both}
 use Rattle.octets.proofs.BoolLaws.{or_false}
 use Rattle.refusals.specs.Refusals.{◌or_else◌, if_taken}
 use Rattle.refusals.proofs.RefusalLaws.{or_else_zero, refuse_zero}
@@ -17,11 +18,10 @@ use Rattle.watch.specs.declared.Sends.{Sends}
 use Rattle.watch.specs.declared.Sends.TheVariants.{Nothing, Transition, Refresh}
 use Rattle.watch.specs.declared.Row.{Row}
 use Rattle.watch.specs.declared.Watch.{Watch}
-use Rattle.watch.specs.declared.Watched.{Watched}
 use Rattle.watch.specs.declared.Event.{Event}
 use Rattle.watch.specs.declared.Event.TheVariants.{Passing, Reading, Frame}
 use Rattle.watch.specs.Table.{table, sends_both, conditioned, change}
-use Rattle.watch.specs.Watch.{clock_limit, in_use, brought, is_frame, is_sent, sent_after, standing, judged, event_row, na_of, if_sent, bits_after, refusal21, refusal18, brought12, event_refusal, start_refusal, taken_after, fresh_watch, only, answered, event_answer}
+use Rattle.watch.specs.Watch.{Watched, clock_limit, in_use, brought, is_frame, is_sent, sent_after, standing, judged, event_row, na_of, if_sent, bits_after, refusal21, refusal18, brought12, event_refusal, start_refusal, taken_after, fresh_watch, only, answered, event_answer}
 use Rattle.watch.proofs.TableLaws.{row_left, run_out}
 use Rattle.watch.proofs.WatchLaws.{due_after}
 
@@ -174,13 +174,9 @@ taken_le Passing clock last h = h
 taken_le (Reading bits alarm) clock last h = h
 taken_le (Frame na) clock last h = omega arith
 
-cond_low : (alarm : Bool) (kept bits : ℕ) → kept ≤ 15 → bits ≤ 15 → cond alarm kept bits ≤ 15
-cond_low true kept bits h k = h
-cond_low false kept bits h k = k
-
 bits_low : (e : Event) (kept : ℕ) → kept ≤ 15 → brought12 e ≡ 0 → bits_after kept e ≤ 15
 bits_low Passing kept h z = h
-bits_low (Reading bits alarm) kept h z = cond_low alarm kept bits h (ltb-false _ _ (or_false (ltb 15 bits) (ltb 1 0) (refuse_zero _ 11 z)).0)
+bits_low (Reading bits alarm) kept h z = cond_both alarm kept bits (λ x. x ≤ 15) (λ s. h) (λ s. ltb-false _ _ (or_false (ltb 15 bits) (ltb 1 0) (refuse_zero _ 11 z)).0)
 bits_low (Frame na) kept h z = h
 
 if_sent_le : (s : Sends) (x n : ℕ) → x ≤ n → if_sent s x ≤ n

@@ -14,11 +14,11 @@ use Rattle.watch.specs.declared.Sends.{Sends}
 use Rattle.watch.specs.declared.Sends.TheVariants.{Nothing, Transition, Refresh}
 use Rattle.watch.specs.declared.Conditioning.TheVariants.{Unchanged}
 use Rattle.watch.specs.declared.Watch.{Watch}
-use Rattle.watch.specs.declared.Watched.{Watched}
 use Rattle.watch.specs.declared.Event.{Event}
 use Rattle.watch.specs.Table.{conditioned, change}
-use Rattle.watch.specs.Watch.{refresh_offered, states_offered, keep_alive_offered, refusal18, brought12, is_frame, taken_after, is_sent, sent_after, event_row, start_refusal, fresh_watch, answered, event_answer}
+use Rattle.watch.specs.Watch.{Watched, refresh_offered, states_offered, keep_alive_offered, refusal18, brought12, is_frame, taken_after, is_sent, sent_after, event_row, start_refusal, fresh_watch, answered, event_answer}
 use Rattle.watch.specs.Events.{Told, answer_to, Runs, watch_after, answers, last_frame, fits, on_after, InTurn, sent_at, last_sent, Silent, EveryMs, SentWithin}
+use Rattle.watch.proofs.TableLaws.{change_same}
 use Rattle.watch.proofs.EventLaws.{by_answer, answer_taken, answer_number, left_change, ran_out, due_sent, none_due, Sound, accepted, sound_order, start_sound, sound_after}
 
 -- the outcomes of any sequence of calls are the fold's
@@ -70,18 +70,14 @@ change_on true false = refl
 change_on false true = refl
 change_on false false = refl
 
-change_none : (a : Bool) → Unchanged ≡ change a a
-change_none true = refl
-change_none false = refl
-
 answer_change : (w : Watch) (x : Told) → (answer_to w x).conditioning ≡ change (conditioned w.terminating) (conditioned (answer_to w x).after.terminating)
 unfolding answered
 answer_change w x =
     by_answer w x.clock x.event
     (λ a. a.conditioning ≡ change (conditioned w.terminating) (conditioned a.after.terminating))
     (λ z h. left_change w x.clock x.event)
-    (λ z h. change_none (conditioned w.terminating))
-    (λ n z. change_none (conditioned w.terminating))
+    (λ z h. sym (change_same (conditioned w.terminating)))
+    (λ n z. sym (change_same (conditioned w.terminating)))
 
 -- on exactly in L_ALARM and R_ALARM, begun and ended in turn, never twice
 pub conditioned_in_turn : (w : Watch) (xs : List Told) → InTurn (conditioned w.terminating) (answers w xs) (conditioned (watch_after w xs).terminating)

@@ -37,7 +37,7 @@ pub refresh_due_lem : (o : Originating) (t : Terminating) → table o t RefreshD
 refresh_due_lem NORMAL t = refl
 refresh_due_lem ALARM t = refl
 
-change_same : (b : Bool) → change b b ≡ Unchanged
+pub change_same : (b : Bool) → change b b ≡ Unchanged
 change_same true = refl
 change_same false = refl
 

@@ -1,6 +1,6 @@
--- The row of an event, put together from its columns, and its answer from its fields.
+-- The row of an event, put together from its columns.
 use Prim.Native.Nat.{ℕ, ◌+◌}
-use mathlib.Core.Path.{◌≡◌, refl, sym}
+use mathlib.Core.Path.{◌≡◌, sym}
 use lib.Dec.{leb}
 use mathlib.Core.Bool.{Bool, cond}
 use Rattle.watch.specs.declared.Originating.{Originating}
@@ -11,10 +11,9 @@ use Rattle.watch.specs.declared.Sends.TheVariants.{Nothing, Refresh}
 use Rattle.watch.specs.declared.Conditioning.{Conditioning}
 use Rattle.watch.specs.declared.Row.{Row}
 use Rattle.watch.specs.declared.Watch.{Watch}
-use Rattle.watch.specs.declared.Watched.{Watched}
 use Rattle.watch.specs.declared.Event.{Event}
 use Rattle.watch.specs.Table.{table, sends_both, conditioned, change}
-use Rattle.watch.specs.Watch.{keep_alive, brought, sent_after, judged, event_row, bits_after, taken_after, na_of, if_sent, answered}
+use Rattle.watch.specs.Watch.{keep_alive, brought, sent_after, judged, event_row}
 use Rattle.watch.proofs.TableLaws.{row_left}
 
 -- a refresh is due after this was sent
@@ -36,32 +35,3 @@ module _ (w : Watch) (clock : ℕ) (e : Event) where
   row_is ro b t₁ t₂ o₂ s₁ s₂ k hr hb h₁ h₂ ho hs₁ hs₂ hk =
       rw (hk, hs₂, hs₁, ho, h₂, h₁, hb, hr)
       (sym (row_left w.originating w.terminating (leb (w.lasttaken + w.keepalive) clock) (brought w e) (due_after w clock)))
-
-  -- the answer to an event that left this row, worked out field by field
-  pub answer_is : (left : Row) (bits shown na told sent taken : ℕ)
-      → bits ≡ bits_after w.bits e
-      → shown ≡ if_sent left.sends bits
-      → na ≡ na_of left.originating left.terminating
-      → told ≡ if_sent left.sends na
-      → sent ≡ sent_after left.sends clock w.lastsent
-      → taken ≡ taken_after e clock w.lasttaken
-      → ◌≡◌ {A = Watched} (record {
-        refusal = 0;
-        sends = left.sends;
-        bits = shown;
-        na = told;
-        conditioning = left.conditioning;
-        after = record {
-          states = w.states;
-          refresh = w.refresh;
-          keepalive = w.keepalive;
-          originating = left.originating;
-          terminating = left.terminating;
-          bits = bits;
-          lastsent = sent;
-          lasttaken = taken;
-          lastclock = clock;
-        };
-      }) (answered w clock e left)
-  unfolding answered
-  answer_is left bits shown na told sent taken hb hs hn ht h₁ h₂ = rw (h₂, h₁, ht, hn, hs, hb) refl

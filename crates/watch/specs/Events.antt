@@ -2,12 +2,11 @@
 use Rattle.std.specs.Prelude.{ℕ, ◌+◌, ◌≤◌, ◌<◌, ◌≡◌, Bool, true, false, not, List, [], ◌∷◌}
 use Rattle.refusals.specs.Refusals.{if_taken}
 use Rattle.watch.specs.declared.Watch.{Watch}
-use Rattle.watch.specs.declared.Watched.{Watched}
 use Rattle.watch.specs.declared.Event.{Event}
 use Rattle.watch.specs.declared.Sends.TheVariants.{Nothing}
 use Rattle.watch.specs.declared.Conditioning.{Conditioning}
 use Rattle.watch.specs.declared.Conditioning.TheVariants.{Unchanged, Begins, Ends}
-use Rattle.watch.specs.Watch.{is_sent, sent_after, taken_after, event_answer}
+use Rattle.watch.specs.Watch.{Watched, is_sent, sent_after, taken_after, event_answer}
 
 -- what a host tells of, and when
 pub record Told : Type 0 where

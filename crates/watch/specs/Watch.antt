@@ -1,6 +1,7 @@
 -- Document 02, A1: a circuit's watch. What a circuit may be provisioned with, the refusals, and what an event answers by the table.
-use Rattle.std.specs.Prelude.{ℕ, ◌+◌, ◌*◌, ◌/◌, ◌^◌, Bool, true, false, not, cond, ◌&&◌, ◌||◌, ltb, leb, eqb}
-use Rattle.refusals.specs.Refusals.{◌or_else◌, refuse, if_taken, refusal12}
+use Rattle.std.specs.Prelude.{ℕ, ◌+◌, ◌*◌, ◌/◌, ◌^◌, Bool, true, false, not, cond, ◌&&◌, ◌||◌, ltb, leb, eqb, Result, Ok, Err}
+use Rattle.refusals.specs.Refusals.{◌or_else◌, refuse, if_taken, refusal12, number}
+use Rattle.refusals.specs.declared.Refusal.{Refusal}
 use Rattle.watch.specs.Table.{comes}
 use Rattle.watch.specs.declared.Originating.{Originating}
 use Rattle.watch.specs.declared.Originating.TheVariants.{Norm as NORMAL, Alarm as ALARM}
@@ -10,10 +11,11 @@ use Rattle.watch.specs.declared.Coming.{Coming}
 use Rattle.watch.specs.declared.Coming.TheVariants.{NoChange, RunOut, NormalFrame, AlarmFrame, FacilityAlarm, SameBits, ChangedBits, RefreshDue}
 use Rattle.watch.specs.declared.Sends.{Sends}
 use Rattle.watch.specs.declared.Sends.TheVariants.{Nothing, Transition, Refresh}
+use Rattle.watch.specs.declared.Conditioning.{Conditioning}
 use Rattle.watch.specs.declared.Conditioning.TheVariants.{Unchanged}
 use Rattle.watch.specs.declared.Row.{Row}
 use Rattle.watch.specs.declared.Watch.{Watch}
-use Rattle.watch.specs.declared.Watched.{Watched}
+use Rattle.watch.specs.declared.Watched.{Watched as Done}
 use Rattle.watch.specs.declared.Event.{Event}
 use Rattle.watch.specs.declared.Event.TheVariants.{Passing, Reading, Frame}
 
@@ -163,6 +165,15 @@ moved w clock e left = record {
   lastclock = clock;
 }
 
+-- what a call answers: its number, the frame to be sent with its bits and N/A, whether conditioning changes, and the watch after it
+pub record Watched : Type 0 where
+  pub refusal : ℕ
+  pub sends : Sends
+  pub bits : ℕ
+  pub na : ℕ
+  pub conditioning : Conditioning
+  pub after : Watch
+
 -- nothing is sent, and conditioning does not change
 abbrev pub only : ℕ → Watch → Watched
 only n w = record { refusal = n; sends = Nothing; bits = 0; na = 0; conditioning = Unchanged; after = w }
@@ -189,3 +200,19 @@ event_answer w clock e =
     if_taken (event_refusal w clock e)
     (cond (eqb w.states 0) (answered w clock Passing (standing w)) (answered w clock e (event_row w clock e)))
     (only (event_refusal w clock e) w)
+
+-- the paper's number and values for each case: a start that is refused has a watch of zeros, a refused event the watch that it came upon
+unfoldable pub start_paper : Result Watch Refusal → Watched
+start_paper (Ok w) = only 0 w
+start_paper (Err r) = only (number r) (fresh_watch 0 0 0 0)
+
+unfoldable pub watched_paper : Watch → Result Done Refusal → Watched
+watched_paper w (Ok a) = record {
+  refusal = 0;
+  sends = a.sends;
+  bits = a.bits;
+  na = a.na;
+  conditioning = a.conditioning;
+  after = a.after;
+}
+watched_paper w (Err r) = only (number r) w

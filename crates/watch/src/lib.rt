@@ -1,24 +1,29 @@
 // The signalling watch of a circuit: when a signalling frame is to be sent, and when the trunk is to be conditioned.
 #![tactic(auto)]
 
-ghost use Rattle.std.specs.Prelude.{◌≡◌, cond, ◌+◌, leb};
+ghost use Rattle.std.specs.Prelude.{◌≡◌, cond, ◌+◌, leb, Ok};
 ghost use Rattle.watch.specs.Table.{table, conditioned, change, sends_both};
-ghost use Rattle.watch.specs.Watch.{states_offered, refresh_offered, keep_alive_offered, refusal21, refusal18, brought12, event_refusal, start_refusal, when_past, in_use, reading, brought, sent_after, standing, event_row, bits_after, taken_after, na_of, if_sent, fresh_watch, only, answered, start_answer, event_answer};
+ghost use Rattle.refusals.specs.Refusals.{refusal_of};
+ghost use Rattle.watch.specs.Watch.{states_offered, refresh_offered, keep_alive_offered, refusal21, refusal14, refusal18, brought12, event_refusal, start_refusal, when_past, in_use, reading, brought, sent_after, standing, event_row, bits_after, taken_after, na_of, if_sent, fresh_watch, answered, start_answer, event_answer, start_paper, watched_paper};
 
-use refusals::{or_else, refusal_12, refuse};
+mod number;
+mod text;
+
+pub use number::UnknownState;
+use refusals::{Refusal, refusal_12, refuse};
 
 // The clocks are counts of ms up to 2^62.
-const CLOCK_LIMIT: u64 = 4611686018427387904;
+const CLOCK_LIMIT: u64 = 1 << 62;
 
 // The states of the originating end, G.764 6.5.1.
-#[derive(Clone, Copy)]
+#[derive(Clone, Copy, Debug, PartialEq, Eq)]
 pub enum Originating {
     Norm,
     Alarm,
 }
 
 // The states of the terminating end, G.764 6.5.2.
-#[derive(Clone, Copy)]
+#[derive(Clone, Copy, Debug, PartialEq, Eq)]
 pub enum Terminating {
     Norm,
     LAlarm,
@@ -26,7 +31,7 @@ pub enum Terminating {
 }
 
 // A circuit's watch. Times are in ms; the clocks are those of the last frame sent, the last frame taken and the last event.
-#[derive(Clone, Copy)]
+#[derive(Clone, Copy, Debug, PartialEq, Eq)]
 pub struct Watch {
     pub states: u8,
     pub refresh: u32,
@@ -40,21 +45,21 @@ pub struct Watch {
 }
 
 // What a host tells of: time passing, the bits and the facility alarm as read, the N/A bit of a frame taken.
-#[derive(Clone, Copy)]
+#[derive(Clone, Copy, Debug, PartialEq, Eq)]
 pub enum Event {
     Passing,
     Reading { bits: u8, alarm: bool },
     Frame { na: u8 },
 }
 
-#[derive(Clone, Copy)]
+#[derive(Clone, Copy, Debug, PartialEq, Eq)]
 pub enum Sends {
     Nothing,
     Transition,
     Refresh,
 }
 
-#[derive(Clone, Copy)]
+#[derive(Clone, Copy, Debug, PartialEq, Eq)]
 pub enum Conditioning {
     Unchanged,
     Begins,
@@ -62,9 +67,8 @@ pub enum Conditioning {
 }
 
 // What an event answers: the frame to be sent with its bits and N/A, whether conditioning changes, and the watch after it.
-#[derive(Clone, Copy)]
+#[derive(Clone, Copy, Debug, PartialEq, Eq)]
 pub struct Watched {
-    pub refusal: u8,
     pub sends: Sends,
     pub bits: u8,
     pub na: u8,
@@ -98,14 +102,10 @@ fn terminating_next(t: Terminating, coming: Coming) -> Terminating
     ensures { (o : Originating) → result ≡ (table o t coming).terminating }
 {
     match coming {
-        Coming::NoChange => t,
         Coming::RunOut => Terminating::LAlarm,
         Coming::NormalFrame => Terminating::Norm,
         Coming::AlarmFrame => Terminating::RAlarm,
-        Coming::FacilityAlarm => t,
-        Coming::SameBits => t,
-        Coming::ChangedBits => t,
-        Coming::RefreshDue => t,
+        _ => t,
     }
 }
 
@@ -114,14 +114,9 @@ fn originating_next(o: Originating, coming: Coming) -> Originating
     ensures { (t : Terminating) → result ≡ (table o t coming).originating }
 {
     match coming {
-        Coming::NoChange => o,
-        Coming::RunOut => o,
-        Coming::NormalFrame => o,
-        Coming::AlarmFrame => o,
         Coming::FacilityAlarm => Originating::Alarm,
-        Coming::SameBits => Originating::Norm,
-        Coming::ChangedBits => Originating::Norm,
-        Coming::RefreshDue => o,
+        Coming::SameBits | Coming::ChangedBits => Originating::Norm,
+        _ => o,
     }
 }
 
@@ -130,151 +125,110 @@ fn sends_next(coming: Coming) -> Sends
     ensures { (o : Originating) (t : Terminating) → result ≡ (table o t coming).sends }
 {
     match coming {
-        Coming::NoChange => Sends::Nothing,
-        Coming::RunOut => Sends::Nothing,
-        Coming::NormalFrame => Sends::Nothing,
-        Coming::AlarmFrame => Sends::Nothing,
-        Coming::FacilityAlarm => Sends::Nothing,
-        Coming::SameBits => Sends::Nothing,
         Coming::ChangedBits => Sends::Transition,
         Coming::RefreshDue => Sends::Refresh,
+        _ => Sends::Nothing,
     }
 }
 
 fn conditioned(t: Terminating) -> bool
     ensures { result ≡ conditioned t }
 {
-    match t {
-        Terminating::Norm => false,
-        Terminating::LAlarm => true,
-        Terminating::RAlarm => true,
-    }
+    t != Terminating::Norm
 }
 
 // Conditioning begins or ends where an event moves the circuit into the conditioned states or out of them.
 fn change(before: bool, after: bool) -> Conditioning
     ensures { result ≡ change before after }
 {
-    if after {
-        if before {
-            return Conditioning::Unchanged;
-        }
-        return Conditioning::Begins;
+    match (before, after) {
+        (false, true) => Conditioning::Begins,
+        (true, false) => Conditioning::Ends,
+        _ => Conditioning::Unchanged,
     }
-    if before {
-        return Conditioning::Ends;
-    }
-    Conditioning::Unchanged
 }
 
-// Each of these three returns at the first value that fits, for a test that is foreseen costs less than all of them joined.
 fn states_offered(states: u8) -> bool
     ensures { result ≡ states_offered states }
 {
-    if states == 16 {
-        return true;
-    }
-    if states == 4 {
-        return true;
-    }
-    states < 3
+    matches!(states, 0 | 1 | 2 | 4 | 16)
 }
 
 fn refresh_offered(refresh: u32) -> bool
     ensures { result ≡ refresh_offered refresh }
 {
-    if refresh == 10000 {
-        return true;
-    }
-    if refresh == 5000 {
-        return true;
-    }
-    if refresh == 1000 {
-        return true;
-    }
-    refresh == 20000
+    matches!(refresh, 1000 | 5000 | 10000 | 20000)
 }
 
-// Twice the keep-alive is judged, since 1.5 times a refresh may be no whole number.
+// Twice the keep-alive is judged, since 1.5 times a refresh may be no whole number. By arms, since joined by `||` the four are all worked out, and a start takes half as long again.
 fn keep_alive_offered(refresh: u32, keepalive: u32) -> bool
     ensures { result ≡ keep_alive_offered refresh keepalive }
 {
-    let once = refresh as u64;
-    let twice = (keepalive as u64) * 2;
-    if twice == once * 3 {
-        return true;
+    let once = u64::from(refresh);
+    let twice = u64::from(keepalive) * 2;
+    match twice {
+        n if n == once * 3 => true,
+        n if n == once * 5 => true,
+        n if n == once * 7 => true,
+        n => n == once * 9,
     }
-    if twice == once * 5 {
-        return true;
-    }
-    if twice == once * 7 {
-        return true;
-    }
-    twice == once * 9
 }
 
-fn refusal_21(states: u8, refresh: u32, keepalive: u32) -> u8
-    ensures { result ≡ refusal21 states refresh keepalive }
+// States and times are three numbers, as the watch has them: a struct of them for the calls that start it would be no plainer.
+fn refusal_21(states: u8, refresh: u32, keepalive: u32) -> Result<(), Refusal>
+    ensures { refusal_of result ≡ refusal21 states refresh keepalive }
 {
-    if !states_offered(states) {
-        return 21;
-    }
-    if !refresh_offered(refresh) {
-        return 21;
-    }
-    if !keep_alive_offered(refresh, keepalive) {
-        return 21;
-    }
-    0
+    let offered = states_offered(states)
+        && refresh_offered(refresh)
+        && keep_alive_offered(refresh, keepalive);
+    refuse(!offered, Refusal::NotOffered)
 }
 
-fn refusal_18(last: u64, clock: u64) -> u8
-    ensures { result ≡ refusal18 last clock }
+// A kept clock above the limit or later than the last event's.
+fn refusal_14(w: Watch) -> Result<(), Refusal>
+    ensures { refusal_of result ≡ refusal14 w }
 {
-    refuse((clock < last) | (CLOCK_LIMIT < clock), 18)
+    let last = w.lastclock;
+    refuse(
+        CLOCK_LIMIT < last || last < w.lastsent || last < w.lasttaken,
+        Refusal::Record,
+    )
+}
+
+fn refusal_18(last: u64, clock: u64) -> Result<(), Refusal>
+    ensures { refusal_of result ≡ refusal18 last clock }
+{
+    refuse(clock < last || CLOCK_LIMIT < clock, Refusal::Clock)
 }
 
 // 12 of what the event brings.
-fn brought_12(event: Event) -> u8
-    ensures { result ≡ brought12 event }
+fn brought_12(event: Event) -> Result<(), Refusal>
+    ensures { refusal_of result ≡ brought12 event }
 {
     match event {
-        Event::Passing => 0,
-        Event::Reading { bits, alarm: _ } => refusal_12(bits, 0),
+        Event::Passing => Ok(()),
+        Event::Reading { bits, .. } => refusal_12(bits, 0),
         Event::Frame { na } => refusal_12(0, na),
     }
 }
 
 // The order, left at the first number that applies.
-fn event_refusal(w: Watch, clock: u64, event: Event) -> u8
-    ensures { result ≡ event_refusal w clock event }
+#[tactic(auto, using(refusals::proofs::RefusalLaws::judged), unfolding(crate::specs::Watch::event_refusal))]
+fn event_refusal(w: Watch, clock: u64, event: Event) -> Result<(), Refusal>
+    ensures { refusal_of result ≡ event_refusal w clock event }
 {
-    let r21 = refusal_21(w.states, w.refresh, w.keepalive);
-    if r21 != 0 {
-        return r21;
-    }
-    let last = w.lastclock;
-    let r14 = refuse(
-        (CLOCK_LIMIT < last) | (last < w.lastsent) | (last < w.lasttaken),
-        14,
-    );
-    if r14 != 0 {
-        return r14;
-    }
-    let r18 = refusal_18(last, clock);
-    if r18 != 0 {
-        return r18;
-    }
-    or_else(refusal_12(w.bits, 0), brought_12(event))
+    refusal_21(w.states, w.refresh, w.keepalive)?;
+    refusal_14(w)?;
+    refusal_18(w.lastclock, clock)?;
+    refusal_12(w.bits, 0)?;
+    brought_12(event)
 }
 
-fn start_refusal(states: u8, refresh: u32, keepalive: u32, clock: u64) -> u8
-    ensures { result ≡ start_refusal states refresh keepalive clock }
+#[tactic(auto, using(refusals::proofs::RefusalLaws::judged), unfolding(crate::specs::Watch::start_refusal))]
+fn start_refusal(states: u8, refresh: u32, keepalive: u32, clock: u64) -> Result<(), Refusal>
+    ensures { refusal_of result ≡ start_refusal states refresh keepalive clock }
 {
-    let r21 = refusal_21(states, refresh, keepalive);
-    if r21 != 0 {
-        return r21;
-    }
+    refusal_21(states, refresh, keepalive)?;
     refusal_18(0, clock)
 }
 
@@ -282,28 +236,23 @@ fn start_refusal(states: u8, refresh: u32, keepalive: u32, clock: u64) -> u8
 fn when_past(clock: u64, from: u64, ms: u32, coming: Coming) -> Coming
     ensures { result ≡ when_past clock from ms coming }
 {
-    if from <= clock {
-        if (ms as u64) <= clock - from {
-            return coming;
-        }
+    if from <= clock && u64::from(ms) <= clock - from {
+        coming
+    } else {
+        Coming::NoChange
     }
-    Coming::NoChange
 }
 
 // Of four bits, those in use.
 fn in_use(states: u8, bits: u8) -> u8
     ensures { result ≡ in_use states bits }
 {
-    if states == 2 {
-        return bits / 8;
+    match states {
+        2 => bits / 8,
+        4 => bits / 4,
+        16 => bits,
+        _ => 0,
     }
-    if states == 4 {
-        return bits / 4;
-    }
-    if states == 16 {
-        return bits;
-    }
-    0
 }
 
 // What a reading brings to a circuit whose bits were kept.
@@ -311,14 +260,12 @@ fn reading(states: u8, kept: u8, bits: u8, alarm: bool) -> Coming
     ensures { result ≡ reading states kept bits alarm }
 {
     if alarm {
-        return Coming::FacilityAlarm;
+        Coming::FacilityAlarm
+    } else if in_use(states, bits) == in_use(states, kept) {
+        Coming::SameBits
+    } else {
+        Coming::ChangedBits
     }
-    let now = in_use(states, bits);
-    let before = in_use(states, kept);
-    if now == before {
-        return Coming::SameBits;
-    }
-    Coming::ChangedBits
 }
 
 fn brought(w: Watch, event: Event) -> Coming
@@ -327,23 +274,15 @@ fn brought(w: Watch, event: Event) -> Coming
     match event {
         Event::Passing => Coming::NoChange,
         Event::Reading { bits, alarm } => reading(w.states, w.bits, bits, alarm),
-        Event::Frame { na } => {
-            if na == 0 {
-                return Coming::NormalFrame;
-            }
-            Coming::AlarmFrame
-        }
+        Event::Frame { na: 0 } => Coming::NormalFrame,
+        Event::Frame { .. } => Coming::AlarmFrame,
     }
 }
 
 fn sent_after(sends: Sends, clock: u64, last: u64) -> u64
     ensures { result ≡ sent_after sends clock last }
 {
-    match sends {
-        Sends::Nothing => last,
-        Sends::Transition => clock,
-        Sends::Refresh => clock,
-    }
+    if sends == Sends::Nothing { last } else { clock }
 }
 
 // What the event sends, or else the refresh, where it is due.
@@ -352,41 +291,34 @@ fn event_sends(first: Sends, clock: u64, lastsent: u64, refresh: u32) -> Sends
 {
     match first {
         Sends::Nothing => sends_next(when_past(clock, lastsent, refresh, Coming::RefreshDue)),
-        Sends::Transition => Sends::Transition,
-        Sends::Refresh => Sends::Refresh,
+        _ => first,
     }
 }
 
 fn standing(w: Watch) -> Row
     ensures { result ≡ standing w }
 {
-    let originating = w.originating;
-    let terminating = w.terminating;
     Row {
-        originating: originating,
-        terminating: terminating,
+        originating: w.originating,
+        terminating: w.terminating,
         sends: Sends::Nothing,
         conditioning: Conditioning::Unchanged,
     }
 }
 
 // Run-out is judged before what the event brings.
+#[tactic(auto, using(crate::proofs::WatchLaws::row_is))]
 fn event_row(w: Watch, clock: u64, event: Event) -> Row
     ensures { result ≡ event_row w clock event }
 {
-    let o = w.originating;
-    let t = w.terminating;
     let run_out = when_past(clock, w.lasttaken, w.keepalive, Coming::RunOut);
     let coming = brought(w, event);
-    let originating = originating_next(o, coming);
-    let terminating = terminating_next(terminating_next(t, run_out), coming);
-    let sends = event_sends(sends_next(coming), clock, w.lastsent, w.refresh);
-    let conditioning = change(conditioned(t), conditioned(terminating));
+    let terminating = terminating_next(terminating_next(w.terminating, run_out), coming);
     Row {
-        originating: originating,
-        terminating: terminating,
-        sends: sends,
-        conditioning: conditioning,
+        originating: originating_next(w.originating, coming),
+        terminating,
+        sends: event_sends(sends_next(coming), clock, w.lastsent, w.refresh),
+        conditioning: change(conditioned(w.terminating), conditioned(terminating)),
     }
 }
 
@@ -394,14 +326,8 @@ fn bits_after(kept: u8, event: Event) -> u8
     ensures { result ≡ bits_after kept event }
 {
     match event {
-        Event::Passing => kept,
-        Event::Reading { bits, alarm } => {
-            if alarm {
-                return kept;
-            }
-            bits
-        }
-        Event::Frame { na: _ } => kept,
+        Event::Reading { bits, alarm: false } => bits,
+        _ => kept,
     }
 }
 
@@ -409,75 +335,44 @@ fn taken_after(event: Event, clock: u64, last: u64) -> u64
     ensures { result ≡ taken_after event clock last }
 {
     match event {
-        Event::Passing => last,
-        Event::Reading { bits: _, alarm: _ } => last,
-        Event::Frame { na: _ } => clock,
+        Event::Frame { .. } => clock,
+        _ => last,
     }
 }
 
 fn na_of(o: Originating, t: Terminating) -> u8
     ensures { result ≡ na_of o t }
 {
-    match o {
-        Originating::Alarm => 1,
-        Originating::Norm => match t {
-            Terminating::Norm => 0,
-            Terminating::LAlarm => 1,
-            Terminating::RAlarm => 0,
-        },
-    }
+    u8::from(o == Originating::Alarm || t == Terminating::LAlarm)
 }
 
 fn if_sent(sends: Sends, x: u8) -> u8
     ensures { result ≡ if_sent sends x }
 {
-    match sends {
-        Sends::Nothing => 0,
-        Sends::Transition => x,
-        Sends::Refresh => x,
-    }
+    if sends == Sends::Nothing { 0 } else { x }
 }
 
 // The answer to an event that left this row.
+#[tactic(auto, unfolding(crate::specs::Watch::answered, crate::specs::Watch::watched_paper))]
 fn answered(w: Watch, clock: u64, event: Event, left: Row) -> Watched
-    ensures { result ≡ answered w clock event left }
+    ensures { watched_paper w (Ok result) ≡ answered w clock event left }
 {
-    let originating = left.originating;
-    let terminating = left.terminating;
     let sends = left.sends;
-    let conditioning = left.conditioning;
     let bits = bits_after(w.bits, event);
     Watched {
-        refusal: 0,
-        sends: sends,
+        sends,
         bits: if_sent(sends, bits),
-        na: if_sent(sends, na_of(originating, terminating)),
-        conditioning: conditioning,
+        na: if_sent(sends, na_of(left.originating, left.terminating)),
+        conditioning: left.conditioning,
         after: Watch {
-            states: w.states,
-            refresh: w.refresh,
-            keepalive: w.keepalive,
-            originating: originating,
-            terminating: terminating,
-            bits: bits,
+            originating: left.originating,
+            terminating: left.terminating,
+            bits,
             lastsent: sent_after(sends, clock, w.lastsent),
             lasttaken: taken_after(event, clock, w.lasttaken),
             lastclock: clock,
+            ..w
         },
-    }
-}
-
-// Nothing is sent and conditioning does not change.
-fn only(refusal: u8, after: Watch) -> Watched
-    ensures { result ≡ only refusal after }
-{
-    Watched {
-        refusal: refusal,
-        sends: Sends::Nothing,
-        bits: 0,
-        na: 0,
-        conditioning: Conditioning::Unchanged,
-        after: after,
     }
 }
 
@@ -485,9 +380,9 @@ fn fresh(states: u8, refresh: u32, keepalive: u32, clock: u64) -> Watch
     ensures { result ≡ fresh_watch states refresh keepalive clock }
 {
     Watch {
-        states: states,
-        refresh: refresh,
-        keepalive: keepalive,
+        states,
+        refresh,
+        keepalive,
         originating: Originating::Norm,
         terminating: Terminating::Norm,
         bits: 0,
@@ -498,26 +393,22 @@ fn fresh(states: u8, refresh: u32, keepalive: u32, clock: u64) -> Watch
 }
 
 // The start of a circuit's watch, both ends in NORM.
-pub fn start(states: u8, refresh: u32, keepalive: u32, clock: u64) -> Watched
-    ensures { result ≡ start_answer states refresh keepalive clock }
+#[tactic(auto, using(refusals::proofs::RefusalLaws::judged), unfolding(crate::specs::Watch::start_answer, crate::specs::Watch::start_paper))]
+pub fn start(states: u8, refresh: u32, keepalive: u32, clock: u64) -> Result<Watch, Refusal>
+    ensures { start_paper result ≡ start_answer states refresh keepalive clock }
 {
-    let n = start_refusal(states, refresh, keepalive, clock);
-    if n != 0 {
-        return only(n, fresh(0, 0, 0, 0));
-    }
-    only(0, fresh(states, refresh, keepalive, clock))
+    start_refusal(states, refresh, keepalive, clock)?;
+    Ok(fresh(states, refresh, keepalive, clock))
 }
 
-// An event of a circuit's watch, which is handed back moved on.
-pub fn tell(w: Watch, clock: u64, event: Event) -> Watched
-    ensures { result ≡ event_answer w clock event }
+// An event of a circuit's watch, which is handed back moved on. A refused one leaves it as it is.
+#[tactic(auto, using(refusals::proofs::RefusalLaws::judged), unfolding(crate::specs::Watch::event_answer, crate::specs::Watch::watched_paper))]
+pub fn tell(w: Watch, clock: u64, event: Event) -> Result<Watched, Refusal>
+    ensures { watched_paper w result ≡ event_answer w clock event }
 {
-    let n = event_refusal(w, clock, event);
-    if n != 0 {
-        return only(n, w);
-    }
+    event_refusal(w, clock, event)?;
     if w.states == 0 {
-        return answered(w, clock, Event::Passing, standing(w));
+        return Ok(answered(w, clock, Event::Passing, standing(w)));
     }
-    answered(w, clock, event, event_row(w, clock, event))
+    Ok(answered(w, clock, event, event_row(w, clock, event)))
 }
