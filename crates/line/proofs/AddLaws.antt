@@ -1,17 +1,18 @@
 -- The writer: what is put, whether there is room for it, and the answer of each way out.
 use Prim.Native.Nat.{ℕ, ◌+◌, ◌*◌, ◌/◌, ◌≤◌, ◌<◌}
 use mathlib.Core.Path.{◌≡◌, refl, sym, ap, ap₂, ◌∙◌}
-use mathlib.Core.Bool.{Bool, true, false, ◌||◌, cond}
+use mathlib.Core.Bool.{Bool, false, ◌||◌, cond}
 use mathlib.Core.List.{List, [], ◌∷◌, ◌++◌, append_assoc}
 use native.Mathlib.Nat.{le_refl}
 use native.Mathlib.Omega.{arith}
 use lib.Dec.{ltb, eqb, eqb-suc-zero}
-use borrow.Author.Tests.{ltb-false}
+use borrow.Author.Tests.{ltb-false, ne_eqb}
 use lib.ListN.{length, get_or, take, drop, length-append}
 use lib.Seq.{slice, take_all}
 use Rattle.octets.proofs.BoolLaws.{or_false}
-use Rattle.refusals.specs.Refusals.{refuse, refusal1}
-use Rattle.refusals.proofs.RefusalLaws.{if_taken_lem, refused_is, done_is, or_else_take, or_else_pass, or_else_zero, refuse_zero}
+use Rattle.refusals.specs.Refusals.{number, refuse, refusal1}
+use Rattle.refusals.specs.declared.Refusal.{Refusal}
+use Rattle.refusals.proofs.RefusalLaws.{number_refuses, if_taken_lem, done_is, or_else_zero, refuse_zero}
 use Rattle.bits.specs.Bits.{bits, lowest, octets_of}
 use Rattle.bits.proofs.BitLaws.{length_bits, octets_of_bits}
 use Rattle.zeros.specs.Zeros.{stuff}
@@ -19,11 +20,11 @@ use Rattle.zeros.specs.Parts.{More}
 use Rattle.zeros.proofs.CarryLaws.{stuff_most}
 use Rattle.line.specs.Line.{flag, put}
 use Rattle.line.specs.Parts.{opened, sent_as}
-use Rattle.line.specs.Calls.{past, over, news, add_refusal, add_answer, add_bits, add_line}
-use Rattle.line.specs.declared.Added.{Added}
+use Rattle.line.specs.Calls.{past, over, news, Added, add_refusal, add_answer, add_bits, add_line}
 use Rattle.line.proofs.RoomLaws.{fits, over_less}
 use Rattle.line.proofs.FindLaws.{length_line}
-use Rattle.line.proofs.MoreLaws.{more_more, behind}
+use Rattle.zeros.proofs.PourLaws.{more_more}
+use Rattle.line.proofs.MoreLaws.{behind}
 
 -- ---- what is put
 
@@ -65,26 +66,23 @@ room_for_most n begin f h = over_less n (begin + (length (sent_as f) + 8)) (begi
 pub room_for_it : (n begin sent : ℕ) (f : List ℕ) (t : Bool) → sent ≡ length (sent_as f) → t ≡ over n (begin + (sent + 8)) → t ≡ over n (begin + (length (sent_as f) + 8))
 room_for_it n begin sent f t e h = h ∙ ap (λ (m : ℕ). over n (begin + (m + 8))) e
 
+-- where the frame's bits begin
+pub begin_first : (count : ℕ) → count ≡ 0 → 8 ≡ cond (eqb count 0) 8 count
+begin_first count z = rw z refl
+
+pub begin_behind : (count : ℕ) → (count ≡ 0 → ⊥) → count ≡ cond (eqb count 0) 8 count
+begin_behind count h = rw (ne_eqb count 0 h) refl
+
 -- ---- the order
 
-module _ (buffer f : List ℕ) (count : ℕ) where
-  pub count_past : past (length buffer) count ≡ true → 14 ≡ add_refusal buffer count f
-  unfolding add_refusal
-  count_past h = rw h
-
-  module _ (counted : past (length buffer) count ≡ false) where
-    pub bad_size : (r : ℕ) → r ≡ refusal1 (length f) → (r ≡ 0 → ⊥) → r ≡ add_refusal buffer count f
-    unfolding add_refusal
-    bad_size r e h = rw counted (or_else_take (refusal1 (length f)) _ r e h)
-
-    pub by_room : (r : ℕ) → r ≡ refusal1 (length f) → r ≡ 0 → (q begin : ℕ) (t : Bool) → begin ≡ cond (eqb count 0) 8 count
-        → t ≡ over (length buffer) (begin + (length (sent_as f) + 8)) → q ≡ refuse t 16 → q ≡ add_refusal buffer count f
-    unfolding add_refusal
-    by_room r e z q begin t eb et eq =
-        let n : begin + (length (sent_as f) + 8) ≡ count + length (news buffer count f) =
-        rw eb (sym (count_after_lem buffer f count (ltb-false _ _ counted))) in
-        let last : q ≡ refuse (over (length buffer) (count + length (news buffer count f))) 16 = eq ∙ ap (λ (b : Bool). refuse b 16) (et ∙ ap (over (length buffer)) n) in
-        rw counted (or_else_pass (refusal1 (length f)) _ r q e z last)
+-- 16, where neither 14 nor 1 is judged
+pub by_room : (buffer f : List ℕ) (count begin q : ℕ) (past-it full : Bool) → past-it ≡ past (length buffer) count → 0 ≡ refuse past-it 14 → 0 ≡ refusal1 (length f)
+    → begin ≡ cond (eqb count 0) 8 count → full ≡ over (length buffer) (begin + (length (sent_as f) + 8)) → q ≡ refuse full 16 → q ≡ add_refusal buffer count f
+unfolding add_refusal
+by_room buffer f count begin q past-it full ep zp zs eb ef eq =
+    let counted : past (length buffer) count ≡ false = sym ep ∙ refuse_zero past-it 13 (sym zp) in
+    let n : begin + (length (sent_as f) + 8) ≡ count + length (news buffer count f) = rw eb (sym (count_after_lem buffer f count (ltb-false _ _ counted))) in
+    rw (counted, ← zs) (eq ∙ ap (λ (b : Bool). refuse b 16) (ef ∙ ap (over (length buffer)) n))
 
 pub small : (n : ℕ) → refusal1 n ≡ 0 → n ≤ 490
 small n z = ltb-false _ _ (or_false (ltb n 10) _ (refuse_zero (ltb n 10 || ltb 490 n) 0 z)).1
@@ -148,22 +146,14 @@ module _ (buffer opened-line f : List ℕ) (count : ℕ) (z : add_refusal buffer
 
 -- ---- the call
 
-abbrev added : ℕ → ℕ → Added
-added r n = record { refusal = r; count = n }
+-- a buffer, each an octet, is what its bits are
+whole : (buffer : List ℕ) → ((i : ℕ) → get_or buffer i 0 < 256) → buffer ≡ octets_of (length buffer) (bits buffer)
+whole buffer o = sym (octets_of_bits buffer o)
 
-pub add_refused : (buffer f : List ℕ) (count r : ℕ) → ((i : ℕ) → get_or buffer i 0 < 256) → r ≡ add_refusal buffer count f → (r ≡ 0 → ⊥)
-    → (added r 0 ≡ add_answer buffer count f) × (buffer ≡ add_line buffer count f)
-unfolding add_answer add_line add_bits
-add_refused buffer f count r o e h = (
-  refused_is (add_refusal buffer count f) r _ _ _ e h (ap (λ (x : ℕ). added x 0) e),
-  sym (octets_of_bits buffer o) ∙ ap (octets_of (length buffer)) (refused_is (add_refusal buffer count f) r _ _ (bits buffer) e h refl),
-)
+pub add_refused : (buffer f : List ℕ) (count : ℕ) (r : Refusal) → ((i : ℕ) → get_or buffer i 0 < 256) → number r ≡ add_refusal buffer count f → buffer ≡ add_line buffer count f
+unfolding add_line add_bits
+add_refused buffer f count r o e = rw (← e, number_refuses r (take count (bits buffer) ++ (news buffer count f ++ drop (count + length (news buffer count f)) (bits buffer))) (bits buffer)) (whole buffer o)
 
-pub add_taken : (buffer after f : List ℕ) (count r n : ℕ) → ((i : ℕ) → get_or after i 0 < 256) → length after ≡ length buffer → r ≡ add_refusal buffer count f → r ≡ 0
-    → n ≡ (add_answer buffer count f).count → bits after ≡ add_bits buffer count f
-    → (added r n ≡ add_answer buffer count f) × (after ≡ add_line buffer count f)
-unfolding add_answer add_line
-add_taken buffer after f count r n o long e z en eb = (
-  done_is (add_refusal buffer count f) r _ _ _ e z (ap₂ added z (en ∙ ap (λ (a : Added). a.count) (if_taken_lem (add_refusal buffer count f) _ _ (sym e ∙ z)))),
-  sym (octets_of_bits after o) ∙ ap₂ octets_of long eb,
-)
+pub add_taken : (buffer after f : List ℕ) (count : ℕ) → ((i : ℕ) → get_or after i 0 < 256) → length after ≡ length buffer → bits after ≡ add_bits buffer count f → after ≡ add_line buffer count f
+unfolding add_line
+add_taken buffer after f count o long e = whole after o ∙ ap₂ octets_of long e

@@ -105,7 +105,7 @@ module _ (f : List ℕ) (count place o : ℕ) (h : count ≤ 8 * length f) (p : 
         }
 
   -- from behind the flag, or at the end where none opens
-  module _ (m : ℕ) (em : m ≡ min 8 (count - o)) where
+  module _ (m : ℕ) (em : m ≡ min (count - o) 8) where
     pub begin_le : o + m ≤ count
     begin_le = omega (arith, open_le)
 

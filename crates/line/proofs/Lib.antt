@@ -4,6 +4,7 @@ pub mod FlagLaws
 pub mod MoreLaws
 pub mod NextLaws
 pub mod OneOutcome
+pub mod PlaceLaws
 pub mod RoomLaws
 pub mod SeekLaws
 pub mod StretchLaws

@@ -5,35 +5,16 @@ use mathlib.Core.Bool.{Bool}
 use mathlib.Core.List.{List, [], ◌∷◌, ◌++◌, append_assoc, append-nil}
 use native.Mathlib.Nat.{not-suc-le-zero, lt_of_lt_of_le}
 use native.Mathlib.Omega.{arith}
-use lib.ListN.{length, get_or, set, take, drop, length-append, length-drop, take-append-drop}
+use lib.ListN.{length, get_or, set, take, drop, length-drop, take-append-drop}
 use lib.Dec.{lit<}
 use lib.Pow.{pow_mono, shl_exact}
 use lib.Seq.{drop-drop, take-add}
 use Rattle.bits.specs.Bits.{bits, lowest, value, octets_of}
 use Rattle.bits.proofs.BitLaws.{length_bits, length_lowest, bits_append, bits_drop, bits_take, front_lt, front_is, lowest_append, joined_lt, octets_of_bits, octet_take}
 use Rattle.zeros.specs.Parts.{More}
-use Rattle.zeros.proofs.PourLaws.{Step, poured_none, poured_step, poured_all}
 use Rattle.line.specs.Line.{flag}
 use Rattle.line.specs.Parts.{opened}
 use Rattle.line.proofs.FindLaws.{length_line}
-
--- ---- one after another
-
-pub more_more : (f g h : List ℕ) (at held n at₂ held₂ n₂ at₃ held₃ n₃ : ℕ) (u v : List Bool)
-    → More f g at held n u at₂ held₂ n₂ → More g h at₂ held₂ n₂ v at₃ held₃ n₃ → More f h at held n (u ++ v) at₃ held₃ n₃
-more_more f g h at held n at₂ held₂ n₂ at₃ held₃ n₃ u v p q =
-    let on : at₂ ≤ at₃ = omega (arith, q.far, q.short) in
-    let e : at₂ + (at₃ - at₂) ≡ at₃ = omega arith in
-    let behind : drop at₃ g ≡ drop at₃ f =
-    ap (λ (k : ℕ). drop k g) (sym e) ∙ sym (drop-drop (at₃ - at₂) at₂ g) ∙ ap (drop (at₃ - at₂)) p.rest ∙ drop-drop (at₃ - at₂) at₂ f ∙ ap (λ (k : ℕ). drop k f) e in
-    record {
-      short = q.short;
-      fits = q.fits;
-      far = omega (arith, p.far, q.far, length-append u v);
-      is = q.is ∙ ap (λ (l : List Bool). l ++ v) p.is ∙ append_assoc (bits (take at f) ++ lowest n held) u v;
-      rest = q.rest ∙ behind;
-      long = q.long ∙ p.long;
-    }
 
 -- ---- whole octets and nothing held
 
@@ -98,7 +79,7 @@ more_all f g at held n at₂ held₂ n₂ more m z =
     whole ∙ ap₂ (λ (u v : List Bool). u ++ v) m.is (behind f g at₂ n₂ m.rest ∙ ap (λ (k : ℕ). drop k (bits f)) m.far)
 
 -- the closing flag, and behind it w, the bits that are left of its last octet
-module _ (f : List ℕ) (at held n w : ℕ) (hn : n < 8) (hh : held < 2 ^ n) (room : 8 * at + n + 8 ≤ 8 * length f)
+module _ (f : List ℕ) (at held n w : ℕ) (hn : n < 8) (room : 8 * at + n + 8 ≤ 8 * length f)
     (ew : w ≡ value (take ((8 - n) % 8) (drop (8 * at + n + 8) (bits f)))) where
   abbrev left : ℕ
   left = (8 - n) % 8
@@ -109,7 +90,7 @@ module _ (f : List ℕ) (at held n w : ℕ) (hn : n < 8) (hh : held < 2 ^ n) (ro
   fits : w < 2 ^ left
   fits = rw ew (front_lt left (drop (8 * at + n + 8) (bits f)))
 
-  up : w * 256 % 18446744073709551616 ≡ w * 256
+  pub up : w * 256 % 18446744073709551616 ≡ w * 256
   up = shl_exact {a = w} left 8 64 fits (omega arith)
 
   flag_left : lowest (8 + left) x ≡ flag ++ take left (drop (8 * at + n + 8) (bits f))
@@ -119,29 +100,18 @@ module _ (f : List ℕ) (at held n w : ℕ) (hn : n < 8) (hh : held < 2 ^ n) (ro
       ∙ ap (λ (l : List Bool). flag ++ l)
       (ap (lowest left) ew ∙ front_is left (drop (8 * at + n + 8) (bits f)) (omega (arith, length-drop (8 * at + n + 8) (bits f), length_bits f)))
 
-  step : Step f f at held n (lowest (8 + left) x) [] at held n x (8 + left)
-  step =
-      poured_step f f at held n (lowest (8 + left) x) (lowest (8 + left) x) [] at held n x (8 + left) (omega (arith, length_lowest (8 + left) x))
-      (poured_none f at held n (lowest (8 + left) x) hn hh) (sym (append-nil (lowest (8 + left) x))) (joined_lt 8 left 126 w (lit< tt) fits) (omega arith)
-
   -- the numbers of the code fit
-  pub flag_fits : 126 + w * 256 % 18446744073709551616 < 2 ^ 64
-  flag_fits = rw up (lt_of_lt_of_le (joined_lt 8 left 126 w (lit< tt) fits) (pow_mono {i = 8 + left} {j = 64} (omega arith)))
+  pub flag_fits : x < 2 ^ (8 + left)
+  flag_fits = joined_lt 8 left 126 w (lit< tt) fits
 
-  put : (126 + w * 256 % 18446744073709551616) * 2 ^ n % 18446744073709551616 ≡ x * 2 ^ n
-  put = rw up step.up
+  pub flag_word : x < 2 ^ 64
+  flag_word = lt_of_lt_of_le flag_fits (pow_mono {i = 8 + left} {j = 64} (omega arith))
 
-  pub put_fits : held + (126 + w * 256 % 18446744073709551616) * 2 ^ n % 18446744073709551616 < 2 ^ 64
-  put_fits = rw put step.fits
-
-  pub closed_by : (g : List ℕ)
-      → g ≡ take at f ++ octets_of ((n + 15) / 8) (lowest 64 (held + (126 + w * 256 % 18446744073709551616) * 2 ^ n % 18446744073709551616)) ++ drop (at + (n + 15) / 8) f
+  pub closed_by : (g : List ℕ) (at₂ held₂ n₂ : ℕ) → More f g at held n (lowest (8 + left) x) at₂ held₂ n₂
       → bits g ≡ bits (take at f) ++ lowest n held ++ flag ++ drop (8 * at + n + 8) (bits f)
-  closed_by g e =
-      let k : (n + 15) / 8 ≡ (n + (8 + left)) / 8 = omega arith in
-      let m = poured_all f g at held n (lowest (8 + left) x) [] (at + (n + (8 + left)) / 8) _ ((n + (8 + left)) % 8) (step.then g (rw (put, k) at e)) refl in
+  closed_by g at₂ held₂ n₂ m =
       let all : 8 * at + n + length (lowest (8 + left) x) ≡ 8 * at + n + 8 + left = omega (arith, length_lowest (8 + left) x) in
       let front : List Bool = bits (take at f) ++ lowest n held in
       let rest : List Bool = drop (8 * at + n + 8) (bits f) in
-      more_all f g at held n _ _ _ (lowest (8 + left) x) m (omega arith)
+      more_all f g at held n at₂ held₂ n₂ (lowest (8 + left) x) m (omega (arith, m.far, m.short, length_lowest (8 + left) x))
       ∙ rw (all, ← drop-drop left (8 * at + n + 8) (bits f), flag_left, ← append_assoc front flag (take left rest), append_assoc (front ++ flag) (take left rest) (drop left rest), take-append-drop left rest)

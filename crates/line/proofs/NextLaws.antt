@@ -1,5 +1,5 @@
 -- Laws of the reader's answer and of its output, one for each way out.
-use Prim.Native.Nat.{ℕ, ◌+◌, ◌*◌, ◌/◌, ◌%◌, ◌≤◌, ◌<◌}
+use Prim.Native.Nat.{ℕ, suc, ◌+◌, ◌-◌, ◌*◌, ◌/◌, ◌%◌, ◌≤◌, ◌<◌, min}
 use mathlib.Core.Path.{◌≡◌, refl, sym, ap, ap₂, ◌∙◌}
 use mathlib.Core.Bool.{Bool, true, false, ◌||◌, not}
 use mathlib.Core.List.{List, ◌++◌}
@@ -10,16 +10,16 @@ use borrow.Author.Tests.{lt-ltb, le-ltb, ltb-false, eqb-true, not-false}
 use lib.ListN.{length, get_or, take, drop}
 use lib.Seq.{slice, take-take}
 use Rattle.octets.proofs.BoolLaws.{or_false}
-use Rattle.refusals.specs.Refusals.{◌or_else◌, refuse, refusal1, refusal16}
+use Rattle.refusals.specs.Refusals.{◌or_else◌, refusal16}
 use Rattle.refusals.proofs.RefusalLaws.{if_taken_lem, if_refused, refused_is, or_else_take, or_else_zero, refuse_zero}
 use Rattle.bits.specs.Bits.{bits, value, octets_of}
 use Rattle.bits.proofs.BitLaws.{length_octets}
 use Rattle.zeros.specs.Zeros.{unstuff}
 use Rattle.zeros.specs.Parts.{Calm, More}
-use Rattle.line.specs.Line.{next, closed, between_refusal, Reading}
-use Rattle.line.specs.Calls.{past, told, heard_out, next_answer, next_out}
-use Rattle.line.specs.declared.TakenOff.{TakenOff}
-use Rattle.line.proofs.FindLaws.{Lies, aborted_is}
+use Rattle.bits.specs.Places.{until}
+use Rattle.line.specs.Line.{next, closed, opens, ends, between_refusal, Reading}
+use Rattle.line.specs.Calls.{past, TakenOff, told, heard_out, next_answer, next_out}
+use Rattle.line.proofs.FindLaws.{Lies, open_le, begin_le, lies, aborted_is}
 use Rattle.line.proofs.MoreLaws.{all_out}
 
 abbrev no : ℕ → ℕ → TakenOff
@@ -27,12 +27,6 @@ no r p = record { refusal = r; found = false; length = 0; place = p }
 
 abbrev got : ℕ → ℕ → TakenOff
 got n p = record { refusal = 0; found = true; length = n; place = p }
-
--- 22, 23, 1, each found by itself
-pub in_order : (aborted : Bool) (n left stop size then r : ℕ) → left ≡ refuse (not (eqb (n % 8) 0)) 22 → stop ≡ refuse aborted 23 → size ≡ refusal1 (n / 8)
-    → then ≡ stop or_else size → r ≡ left or_else then → r ≡ between_refusal aborted n
-unfolding between_refusal
-in_order aborted n left stop size then r el es ez et er = er ∙ ap₂ ◌or_else◌ el (et ∙ ap₂ ◌or_else◌ es ez)
 
 -- what is not refused makes whole octets
 whole_octets : (n r : ℕ) (s : Bool) → r ≡ between_refusal s n → r ≡ 0 → n % 8 ≡ 0
@@ -70,13 +64,20 @@ Outcome f out count place a o = (a ≡ next_answer f count place (length out)) �
 pub bounds : (n count place : ℕ) → (past n count || ltb count place) ≡ false → (count ≤ 8 * n) × (place ≤ count)
 bounds n count place h = let p = or_false (past n count) (ltb count place) h in (ltb-false _ _ p.0, ltb-false _ _ p.1)
 
+pub next_past : (f out : List ℕ) (count place : ℕ) → past (length f) count ≡ true → Outcome f out count place (no 14 0) out
+unfolding next_answer next_out
+next_past f out count place h = (rw h, rw h)
+
 pub next_14 : (f out : List ℕ) (count place : ℕ) → (past (length f) count || ltb count place) ≡ true → Outcome f out count place (no 14 0) out
 unfolding next_answer next_out
 next_14 f out count place h = (rw h, rw h)
 
+pub next_place : (f out : List ℕ) (count place : ℕ) → past (length f) count ≡ false → count < place → Outcome f out count place (no 14 0) out
+next_place f out count place h l = next_14 f out count place (rw (h, lt-ltb count place l) refl)
+
 -- of n bits between b and e, which r refuses or not
 pub record Judged (f out : List ℕ) (count place b e n r : ℕ) : Type 0 where
-  pub refused : (r ≡ 0 → ⊥) → Outcome f out count place (no r e) out
+  pub refused : (q : ℕ) → r ≡ suc q → Outcome f out count place (no r e) out
   pub short : r ≡ 0 → length out < n / 8 → Outcome f out count place (no 16 0) out
   pub room : r ≡ 0 → n / 8 ≤ length out → 8 * 0 + 0 + length (unstuff 5 (slice b e (bits f))) ≤ 8 * length out
   pub done : r ≡ 0 → n / 8 ≤ length out → (o : List ℕ) (at held m : ℕ) → ((i : ℕ) → get_or o i 0 < 256)
@@ -153,8 +154,43 @@ module _ (f out : List ℕ) (count place b e : ℕ) (h : (past (length f) count 
       pub judged : Judged f out count place b e n r
       judged =
           record {
-            refused = λ z. let t = heard_refused out reading (λ y. z (refusal_is ∙ y)) in outcome (some reading) (no r e) out read (ap₂ no refusal_is place_is ∙ t.0, t.1);
+            refused = λ q z. let t = heard_refused out reading (λ y. omega (arith, refusal_is, y, z)) in outcome (some reading) (no r e) out read (ap₂ no refusal_is place_is ∙ t.0, t.1);
             short = λ z l. outcome (some reading) (no 16 0) out read (heard_short out reading (sym refusal_is ∙ z) (rw (← size_is z) l));
             room = λ z l. omega (arith, en, whole z);
             done = judged_done;
+          }
+
+-- ---- of a place from which a reading is looked for, and where it then lies
+
+pub record Found (f out : List ℕ) (count place b e : ℕ) : Type 0 where
+  pub none : e ≡ count → Outcome f out count place (no 0 0) out
+  pub between : (e ≡ count → ⊥) → (b ≤ e) × (e ≤ 8 * length f) × (e < 18446744073709551615) × Calm 5 (slice b e (bits f))
+  pub stands : (e ≡ count → ⊥) → e + 1 ≤ 8 * length f
+  pub judged : (e ≡ count → ⊥) → (n r : ℕ) (s : Bool) → n ≡ length (unstuff 5 (slice b e (bits f))) → s ≡ eqb (value (take 1 (drop e (bits f)))) 1
+      → r ≡ between_refusal s n → Judged f out count place b e n r
+
+module _ (f out : List ℕ) (count place : ℕ) (p : past (length f) count ≡ false) (q : place ≤ count) where
+  counted : count ≤ 8 * length f
+  counted = ltb-false _ _ p
+
+  pub sought_within : (place ≤ count) × (count ≤ 8 * length f)
+  sought_within = (q, counted)
+
+  module _ (o : ℕ) (eo : o ≡ place + until opens (drop place (take count (bits f)))) where
+    pub open_within : o ≤ count
+    open_within = open_le f count place o counted q eo
+
+    module _ (m : ℕ) (em : m ≡ min (count - o) 8) where
+      pub begin_within : (o + m ≤ count) × (count ≤ 8 * length f)
+      begin_within = (begin_le f count place o counted q eo m em, counted)
+
+      pub found : (e : ℕ) → count < 18446744073709551616 → e ≡ o + m + until ends (drop (o + m) (take count (bits f))) → Found f out count place (o + m) e
+      found e small ee =
+          let h : (past (length f) count || ltb count place) ≡ false = rw (p, le-ltb count place q) refl in
+          let l = lies f count place o counted q eo m em e ee in
+          record {
+            none = next_none f out count place (o + m) e h l;
+            between = λ z. between f out count place (o + m) e h l z small;
+            stands = stands_within f out count place (o + m) e h l;
+            judged = λ z n r s. judged f out count place (o + m) e h l z n r s;
           }

@@ -5,7 +5,8 @@ use mathlib.Core.Bool.{Bool, true, false, ◌||◌}
 use mathlib.Core.List.{List, [], ◌∷◌, ◌++◌}
 use native.Mathlib.Omega.{arith}
 use lib.Dec.{ltb}
-use lib.ListN.{length, drop}
+use lib.ListN.{length, take, drop}
+use lib.Seq.{length-take-le}
 use borrow.Author.Tests.{le-ltb, ltb-false}
 use Rattle.octets.proofs.BoolLaws.{or_false}
 use Rattle.refusals.specs.Refusals.{refuse}
@@ -59,6 +60,13 @@ module _ (level wait addr : ℕ) where
     pub done_list : tray_list level wait addr tray out list ≡ numbers level wait addr tray (length out) ++ drop (length (numbers level wait addr tray (length out))) list
     unfolding tray_list sent_buffer
     done_list = if_taken_lem (tray_refusal tray (length list)) _ _ z
+
+-- the list's first `count` places are lent, and come back as `all`
+pub front_lent : (list p all : List ℕ) (count : ℕ) → count ≤ length list → length p ≡ length (take count list) → p ≡ all
+    → p ++ drop count list ≡ all ++ drop (length all) list
+front_lent list p all count h e a =
+    let n : count ≡ length all = sym (length-take-le count list h) ∙ sym e ∙ ap length a in
+    ap₂ (λ (x : List ℕ) (k : ℕ). x ++ drop k list) a n
 
 -- the same of a number r that is known to be the refusal, as the code has it
 module _ (level wait addr : ℕ) (tray out list : List ℕ) (r : ℕ) (e : r ≡ tray_refusal tray (length list)) where

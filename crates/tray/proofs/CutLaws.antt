@@ -7,8 +7,7 @@ use native.Mathlib.Omega.{arith}
 use lib.ListN.{length, get_or, take, drop, length-append, length-drop, get_or-append}
 use lib.Seq.{take-append-le, drop-append-le, drop-append-add, drop-drop, drop-length}
 use Rattle.octets.specs.Records.{following, kind}
-use Rattle.tray.specs.Tray.{whole, frame, Read, with_frame, read_past, read, tray_refusal, records_of, frame_refusal, sent_on, passed, numbers, outgoing, tray_answer, tray_buffer, tray_list}
-use Rattle.tray.specs.declared.Forwarded.{Forwarded}
+use Rattle.tray.specs.Tray.{whole, frame, Read, with_frame, read_past, read, tray_refusal, records_of, frame_refusal, sent_on, passed, numbers, outgoing, tray_answer, tray_buffer, tray_list, Forwarded}
 use Rattle.tray.proofs.ReadLaws.{Whole, whole_known, whole_made, read_whole, read_none}
 use Rattle.tray.proofs.RunLaws.{records_append}
 use Rattle.tray.proofs.CallLaws.{whole_tray, tray_whole, done_answer, done_buffer, done_list}

@@ -1,4 +1,6 @@
 -- One frame's record: the node's call on the part of the buffer behind the record's four octets.
+use Rattle.std.specs.Prelude.{Result, Ok, Err}
+use Rattle.std.specs.Result.{result_unwrap_or}
 use Prim.Native.Nat.{ℕ, zero, suc, ◌+◌, ◌-◌, ◌≤◌, min}
 use mathlib.Core.Path.{◌≡◌, refl, sym, ap, ◌∙◌}
 use mathlib.Core.Bool.{Bool, true, false}
@@ -10,15 +12,27 @@ use lib.Seq.{drop_at, drop-drop, length-take-le}
 use borrow.Author.Tests.{leb-true, leb-false}
 use borrow.Rule.Slice.PartMut.{mid_of, put_mid}
 use Rattle.octets.proofs.PartLaws.{tail_of, tail_put}
+use Rattle.refusals.specs.Refusals.{refusal_of}
+use Rattle.refusals.specs.declared.Refusal.{Refusal}
 use Rattle.onward.specs.Onward.{onward}
-use Rattle.onward.specs.Sent.{sent_answer, sent_buffer}
-use Rattle.onward.specs.declared.Sent.{Sent}
+use Rattle.onward.specs.Sent.{Sent, sent_answer, sent_buffer, sent_paper}
 use Rattle.onward.proofs.SentLaws.{answer_done, buffer_done}
 use Rattle.onward.proofs.OnwardLaws.{onward_length}
 use Rattle.node.specs.Node.{forward_refusal, forward_answer, forward_buffer}
 use Rattle.node.proofs.ForwardLaws.{forwarded}
 use Rattle.tray.specs.Tray.{record_head, record_of, frame_refusal}
 use Rattle.tray.proofs.ReadLaws.{record_length}
+
+-- the number and the length of a result
+pub told_refusal : (r : Result ℕ Refusal) → refusal_of r ≡ (sent_paper r).refusal
+unfolding sent_paper
+told_refusal (Ok n) = refl
+told_refusal (Err r) = refl
+
+pub told_length : (r : Result ℕ Refusal) → result_unwrap_or r 0 ≡ (sent_paper r).length
+unfolding sent_paper
+told_length (Ok n) = refl
+told_length (Err r) = refl
 
 -- what an answer tells: refused, it is the same whatever would have been written
 known_refused : (q : ℕ) (w v out : List ℕ) (s : Sent) → s ≡ sent_answer q w → (s.refusal ≡ 0 → ⊥) → (s ≡ sent_answer q v) × (sent_buffer q w out ≡ out) × (out ≡ sent_buffer q v out)
@@ -32,20 +46,20 @@ known_taken zero w out s e h = (refl, ap (λ (x : Sent). x.length) e, refl)
 known_taken (suc q) w out s e h = let z : suc q ≡ 0 = sym (ap (λ (x : Sent). x.refusal) e) ∙ h in absurd (omega arith)
 
 -- where the part behind the four octets begins, and what it is
-from_four : (out : List ℕ) → drop (min 4 (length out)) out ≡ drop 4 out
+from_four : (out : List ℕ) → drop (min (length out) 4) out ≡ drop 4 out
 from_four out = go (leb 4 (length out)) refl where
-  go : (v : Bool) → leb 4 (length out) ≡ v → drop (min 4 (length out)) out ≡ drop 4 out
-  go true e = let k : min 4 (length out) ≡ 4 = omega (arith, leb-true 4 (length out) e) in ap (λ (n : ℕ). drop n out) k
+  go : (v : Bool) → leb 4 (length out) ≡ v → drop (min (length out) 4) out ≡ drop 4 out
+  go true e = let k : min (length out) 4 ≡ 4 = omega (arith, leb-true 4 (length out) e) in ap (λ (n : ℕ). drop n out) k
   go false e =
       let s = leb-false 4 (length out) e in
-      drop_of_length-le out {i = min 4 (length out)} (omega (arith, s)) ∙ sym (drop_of_length-le out {i = 4} (omega (arith, s)))
+      drop_of_length-le out {i = min (length out) 4} (omega (arith, s)) ∙ sym (drop_of_length-le out {i = 4} (omega (arith, s)))
 
 -- where a frame is taken there is room for its record
 pub record_fits : (level wait addr : ℕ) (f : List ℕ) (room : ℕ) → frame_refusal level wait addr f room ≡ 0 → 4 + length (onward level wait addr f) ≤ room
 unfolding frame_refusal
 record_fits level wait addr f room h = omega (arith, (forwarded level wait addr f (room - 4) h).roomy, onward_length level wait addr f)
 
-module _ (level wait addr : ℕ) (f out : List ℕ) (start : ℕ) (es : start ≡ min 4 (length out)) (sent : Sent) (p : List ℕ)
+module _ (level wait addr : ℕ) (f out : List ℕ) (start : ℕ) (es : start ≡ min (length out) 4) (sent : Sent) (p : List ℕ)
     (ea : sent ≡ forward_answer level wait addr f (mid_of start (length out - start) out))
     (eb : p ≡ forward_buffer level wait addr f (mid_of start (length out - start) out)) where
   part : mid_of start (length out - start) out ≡ drop 4 out

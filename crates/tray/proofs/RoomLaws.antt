@@ -15,9 +15,8 @@ use Rattle.frame.proofs.FrameLaws.{passes}
 use Rattle.onward.specs.Onward.{onward}
 use Rattle.onward.proofs.OnwardLaws.{onward_length, kept}
 use Rattle.node.specs.Node.{forward_refusal}
-use Rattle.tray.specs.Tray.{whole, frame, read_past, read, tray_refusal, record_of, records_of, frame_refusal, sent_on, passed, tray_answer, tray_list}
+use Rattle.tray.specs.Tray.{whole, frame, read_past, read, tray_refusal, record_of, records_of, frame_refusal, sent_on, passed, tray_answer, tray_list, Forwarded}
 use Rattle.tray.specs.Turns.{roomy_refusal}
-use Rattle.tray.specs.declared.Forwarded.{Forwarded}
 use Rattle.tray.proofs.ReadLaws.{whole_known, record_length}
 use Rattle.tray.proofs.RunLaws.{records_append, record_taken, record_none}
 use Rattle.tray.proofs.CallLaws.{done_answer}

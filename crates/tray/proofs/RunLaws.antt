@@ -5,17 +5,17 @@ use mathlib.Core.Bool.{true}
 use mathlib.Core.List.{List, [], ◌∷◌, ◌++◌, append_assoc, append-nil}
 use native.Mathlib.Omega.{arith}
 use lib.ListN.{length, take, drop, set}
-use lib.Seq.{drop-drop}
+use lib.Seq.{take_all}
 use borrow.Rule.Slice.PartMut.{mid_of, put_mid}
+use Rattle.std.proofs.lemmas.List.{drop-take}
 use Rattle.octets.specs.Records.{following}
 use Rattle.octets.proofs.PartLaws.{tail_of, tail_length}
 use Rattle.refusals.proofs.RefusalLaws.{by_taken, if_taken_lem, if_refused}
 use Rattle.onward.specs.Onward.{onward}
-use Rattle.onward.specs.Sent.{sent_answer, sent_buffer}
-use Rattle.onward.specs.declared.Sent.{Sent}
+use Rattle.onward.specs.Sent.{Sent, sent_answer, sent_buffer}
 use Rattle.onward.proofs.SentLaws.{answered}
-use Rattle.tray.specs.Tray.{whole, frame, Read, read, record_of, records_of, Passed, frame_refusal, sent_on, passed, numbers, outgoing}
-use Rattle.tray.proofs.ReadLaws.{some_whole, next_size, next_read, record_length}
+use Rattle.tray.specs.Tray.{whole, frame, Read, with_frame, read, record_of, records_of, Passed, frame_refusal, sent_on, passed, numbers, outgoing}
+use Rattle.tray.proofs.ReadLaws.{some_whole, whole_known, read_whole, record_length}
 use Rattle.tray.proofs.RecordLaws.{record_fits}
 use Rattle.tray.proofs.FillLaws.{Filling, fill_start, fill_over, fill_part, fill_set}
 
@@ -72,16 +72,14 @@ module _ (level wait addr : ℕ) where
   none_passed [] room h = (refl, refl)
   none_passed (f ∷ fs) room h = absurd (omega arith)
 
--- so far: `at` octets of the tray, `written` octets of the buffer, i places of the list
-pub record Run (level wait addr : ℕ) (tray out₀ list₀ out list : List ℕ) (at written i : ℕ) : Type 0 where
-  pub within : at ≤ length tray
-  pub many : i + length (read (drop at tray)).frames ≡ length (read tray).frames
-  pub octets : Filling written out out₀ (outgoing level wait addr (drop at tray) (length out₀ - written)) (outgoing level wait addr tray (length out₀))
-  pub places : Filling i list list₀ (numbers level wait addr (drop at tray) (length out₀ - written)) (numbers level wait addr tray (length out₀))
+-- so far: `rest` is left of the tray, `written` octets of the buffer, i places of the list
+pub record Run (level wait addr : ℕ) (tray out₀ list₀ out list rest : List ℕ) (written i : ℕ) : Type 0 where
+  pub many : i + length (read rest).frames ≡ length (read tray).frames
+  pub octets : Filling written out out₀ (outgoing level wait addr rest (length out₀ - written)) (outgoing level wait addr tray (length out₀))
+  pub places : Filling i list list₀ (numbers level wait addr rest (length out₀ - written)) (numbers level wait addr tray (length out₀))
 
-pub run_start : (level wait addr : ℕ) (tray out list : List ℕ) → Run level wait addr tray out list out list 0 0 0
+pub run_start : (level wait addr : ℕ) (tray out list : List ℕ) → Run level wait addr tray out list out list tray 0 0
 run_start level wait addr tray out list = record {
-  within = omega arith;
   many = omega arith;
   octets = subst (λ (n : ℕ). Filling 0 out out (outgoing level wait addr tray n) (outgoing level wait addr tray (length out))) none (fill_start out _);
   places = subst (λ (n : ℕ). Filling 0 list list (numbers level wait addr tray n) (numbers level wait addr tray (length out))) none (fill_start list _);
@@ -89,75 +87,81 @@ run_start level wait addr tray out list = record {
   none : length out ≡ length out - 0
   none = omega arith
 
-module _ (level wait addr : ℕ) (tray out₀ list₀ out list : List ℕ) (at written i : ℕ) (run : Run level wait addr tray out₀ list₀ out list at written i) where
-  pub run_over : length (read tray).frames ≤ i
+module _ (level wait addr : ℕ) (tray out₀ list₀ out list rest : List ℕ) (written i : ℕ) (run : Run level wait addr tray out₀ list₀ out list rest written i) where
+  pub run_over : length (read tray).frames ≤ i → length list ≤ i
       → (written ≡ length (outgoing level wait addr tray (length out₀)))
       × (out ≡ outgoing level wait addr tray (length out₀) ++ drop (length (outgoing level wait addr tray (length out₀))) out₀)
-      × (list ≡ numbers level wait addr tray (length out₀) ++ drop (length (numbers level wait addr tray (length out₀))) list₀)
-  run_over h =
-      let z = none_passed level wait addr (read (drop at tray)).frames (length out₀ - written) (omega (arith, run.many)) in
+      × (list ≡ numbers level wait addr tray (length out₀))
+  run_over h k =
+      let z = none_passed level wait addr (read rest).frames (length out₀ - written) (omega (arith, run.many)) in
       let o = fill_over written out out₀ _ (subst (λ (l : List ℕ). Filling written out out₀ l (outgoing level wait addr tray (length out₀))) z.1 run.octets) in
-      (o.0, o.1, (fill_over i list list₀ _ (subst (λ (l : List ℕ). Filling i list list₀ l (numbers level wait addr tray (length out₀))) z.0 run.places)).1)
+      let p : Filling i list list₀ [] (numbers level wait addr tray (length out₀)) = subst (λ (l : List ℕ). Filling i list list₀ l (numbers level wait addr tray (length out₀))) z.0 run.places in
+      (o.0, o.1, sym (take_all i list k) ∙ sym (append-nil (take i list)) ∙ p.front)
 
-  module _ (more : i < length (read tray).frames) (n : ℕ) (en : n ≡ following (mid_of at (length tray - at) tray)) where
-    whole_here : whole (drop at tray) ≡ true
-    whole_here = some_whole (drop at tray) (omega (arith, run.many))
+  module _ (more : i < length (read tray).frames) (n : ℕ) (en : n ≡ following rest) where
+    whole_here : whole rest ≡ true
+    whole_here = some_whole rest (omega (arith, run.many))
 
-    size_here : n ≡ following (drop at tray)
-    size_here = en ∙ ap following (tail_of at tray)
+    pub run_size : (4 ≤ 2 + n) × (2 + n ≤ length rest)
+    run_size = let k = whole_known rest whole_here in (omega (arith, k.long, en), omega (arith, k.here, en))
 
-    pub run_size : (4 ≤ 2 + n) × (at + (2 + n) ≤ length tray)
-    run_size = next_size tray at n whole_here size_here run.within
-
-    read_here : read (drop at tray) ≡ record { frames = frame (drop at tray) ∷ (read (drop (at + (2 + n)) tray)).frames; left = (read (drop (at + (2 + n)) tray)).left }
-    read_here = next_read tray at n whole_here size_here
-
-    frame_here : mid_of (at + 4) (at + (2 + n) - (at + 4)) tray ≡ frame (drop at tray)
+    -- its frame
+    pub run_frame : (r : List ℕ) → r ≡ take (2 + n) rest → mid_of 4 (length r - 4) r ≡ frame rest
     unfolding frame
-    frame_here =
-        let k : at + (2 + n) - (at + 4) ≡ following (drop at tray) - 2 = omega (arith, size_here, run_size.0) in
-        ap₂ (λ (j : ℕ) (l : List ℕ). take j l) k (sym (drop-drop 4 at tray))
+    run_frame r er =
+        let k : 4 + (following rest - 2) ≡ 2 + n = omega (arith, en, run_size.0) in
+        tail_of 4 r ∙ ap (drop 4) (er ∙ ap (λ (j : ℕ). take j rest) (sym k)) ∙ drop-take 4 (following rest - 2) rest
 
     room_here : length (mid_of written (length out - written) out) ≡ length out₀ - written
     room_here = tail_length written out ∙ ap (λ (k : ℕ). k - written) run.octets.same
 
-    module _ (sent : Sent) (p : List ℕ)
-        (ea : sent ≡ sent_answer (frame_refusal level wait addr (mid_of (at + 4) (at + (2 + n) - (at + 4)) tray) (length (mid_of written (length out - written) out))) (record_of (onward level wait addr (mid_of (at + 4) (at + (2 + n) - (at + 4)) tray))))
-        (eb : p ≡ sent_buffer (frame_refusal level wait addr (mid_of (at + 4) (at + (2 + n) - (at + 4)) tray) (length (mid_of written (length out - written) out))) (record_of (onward level wait addr (mid_of (at + 4) (at + (2 + n) - (at + 4)) tray))) (mid_of written (length out - written) out)) where
-      same_step : (frame_refusal level wait addr (mid_of (at + 4) (at + (2 + n) - (at + 4)) tray) (length (mid_of written (length out - written) out)) ≡ frame_refusal level wait addr (frame (drop at tray)) (length out₀ - written))
-          × (records_of (sent_on level wait addr (mid_of (at + 4) (at + (2 + n) - (at + 4)) tray) (length (mid_of written (length out - written) out))) ≡ records_of (sent_on level wait addr (frame (drop at tray)) (length out₀ - written)))
-      same_step = (ap₂ (frame_refusal level wait addr) frame_here room_here, ap₂ (λ (f : List ℕ) (k : ℕ). records_of (sent_on level wait addr f k)) frame_here room_here)
+    -- it is sent on, or refused, and `left` is left of the tray
+    module _ (f left : List ℕ) (ef : f ≡ frame rest) (el : left ≡ drop (2 + n) rest) (sent : Sent) (p : List ℕ)
+        (ea : sent ≡ sent_answer (frame_refusal level wait addr f (length (mid_of written (length out - written) out))) (record_of (onward level wait addr f)))
+        (eb : p ≡ sent_buffer (frame_refusal level wait addr f (length (mid_of written (length out - written) out))) (record_of (onward level wait addr f)) (mid_of written (length out - written) out)) where
+      read_here : read rest ≡ record { frames = frame rest ∷ (read left).frames; left = (read left).left }
+      read_here =
+          read_whole rest whole_here
+          ∙ ap (λ (r : List ℕ). with_frame (frame rest) (read r)) (ap (λ (k : ℕ). drop (2 + k) rest) (sym en) ∙ sym el)
 
-      size_sent : sent.length ≡ length (records_of (sent_on level wait addr (frame (drop at tray)) (length out₀ - written)))
-      size_sent = (added level wait addr (mid_of (at + 4) (at + (2 + n) - (at + 4)) tray) (mid_of written (length out - written) out) p sent ea eb).0 ∙ ap length same_step.1
+      same_step : (frame_refusal level wait addr f (length (mid_of written (length out - written) out)) ≡ frame_refusal level wait addr (frame rest) (length out₀ - written))
+          × (records_of (sent_on level wait addr f (length (mid_of written (length out - written) out))) ≡ records_of (sent_on level wait addr (frame rest) (length out₀ - written)))
+      same_step = (ap₂ (frame_refusal level wait addr) ef room_here, ap₂ (λ (g : List ℕ) (k : ℕ). records_of (sent_on level wait addr g k)) ef room_here)
 
-      refusal_sent : sent.refusal ≡ frame_refusal level wait addr (frame (drop at tray)) (length out₀ - written)
+      size_sent : sent.length ≡ length (records_of (sent_on level wait addr (frame rest) (length out₀ - written)))
+      size_sent = (added level wait addr f (mid_of written (length out - written) out) p sent ea eb).0 ∙ ap length same_step.1
+
+      refusal_sent : sent.refusal ≡ frame_refusal level wait addr (frame rest) (length out₀ - written)
       refusal_sent = ap (λ (s : Sent). s.refusal) ea ∙ answered _ _ ∙ same_step.0
 
       run_room : written + sent.length ≤ length out₀
-      run_room = omega (arith, size_sent, added_fits level wait addr (frame (drop at tray)) (length out₀ - written), run.octets.room)
+      run_room = omega (arith, size_sent, added_fits level wait addr (frame rest) (length out₀ - written), run.octets.room)
 
       -- the definition's next step
-      step : (numbers level wait addr (drop at tray) (length out₀ - written) ≡ sent.refusal ∷ numbers level wait addr (drop (at + (2 + n)) tray) (length out₀ - (written + sent.length)))
-          × (outgoing level wait addr (drop at tray) (length out₀ - written) ≡ records_of (sent_on level wait addr (frame (drop at tray)) (length out₀ - written)) ++ outgoing level wait addr (drop (at + (2 + n)) tray) (length out₀ - (written + sent.length)))
+      step : (numbers level wait addr rest (length out₀ - written) ≡ sent.refusal ∷ numbers level wait addr left (length out₀ - (written + sent.length)))
+          × (outgoing level wait addr rest (length out₀ - written) ≡ records_of (sent_on level wait addr (frame rest) (length out₀ - written)) ++ outgoing level wait addr left (length out₀ - (written + sent.length)))
       step =
-          let k : length out₀ - (written + sent.length) ≡ length out₀ - written - length (records_of (sent_on level wait addr (frame (drop at tray)) (length out₀ - written))) = omega (arith, size_sent) in
-          let m = next_passed level wait addr (frame (drop at tray)) (read (drop (at + (2 + n)) tray)).frames (length out₀ - written) _ (ap (passed level wait addr (read (drop (at + (2 + n)) tray)).frames) k) in (
-            ap (λ (r : Read). (passed level wait addr r.frames (length out₀ - written)).refusals) read_here ∙ m.0 ∙ ap (λ (q : ℕ). q ∷ numbers level wait addr (drop (at + (2 + n)) tray) (length out₀ - (written + sent.length))) (sym refusal_sent),
+          let k : length out₀ - (written + sent.length) ≡ length out₀ - written - length (records_of (sent_on level wait addr (frame rest) (length out₀ - written))) = omega (arith, size_sent) in
+          let m = next_passed level wait addr (frame rest) (read left).frames (length out₀ - written) _ (ap (passed level wait addr (read left).frames) k) in (
+            ap (λ (r : Read). (passed level wait addr r.frames (length out₀ - written)).refusals) read_here ∙ m.0 ∙ ap (λ (q : ℕ). q ∷ numbers level wait addr left (length out₀ - (written + sent.length))) (sym refusal_sent),
             ap (λ (r : Read). records_of (passed level wait addr r.frames (length out₀ - written)).sent) read_here ∙ m.1,
           )
 
-      pub run_next : i < length list₀
-          → Run level wait addr tray out₀ list₀ (put_mid written (length out - written) out p) (set list i sent.refusal) (at + (2 + n)) (written + sent.length) (i + 1)
-      run_next h = record {
-        within = run_size.1;
+      run_on : i < length list₀
+          → Run level wait addr tray out₀ list₀ (put_mid written (length out - written) out p) (set list i sent.refusal) left (written + sent.length) (i + 1)
+      run_on h = record {
         many = omega (arith, run.many, ap (λ (r : Read). length r.frames) read_here);
         octets =
-            fill_part written out out₀ _ (records_of (sent_on level wait addr (frame (drop at tray)) (length out₀ - written))) _ p sent.length
+            fill_part written out out₀ _ (records_of (sent_on level wait addr (frame rest) (length out₀ - written))) _ p sent.length
             (subst (λ (l : List ℕ). Filling written out out₀ l (outgoing level wait addr tray (length out₀))) step.1 run.octets)
             size_sent run_room
-            ((added level wait addr (mid_of (at + 4) (at + (2 + n) - (at + 4)) tray) (mid_of written (length out - written) out) p sent ea eb).1 ∙ ap (λ (l : List ℕ). l ++ drop sent.length (mid_of written (length out - written) out)) same_step.1);
+            ((added level wait addr f (mid_of written (length out - written) out) p sent ea eb).1 ∙ ap (λ (l : List ℕ). l ++ drop sent.length (mid_of written (length out - written) out)) same_step.1);
         places =
             fill_set i list list₀ _ sent.refusal _
             (subst (λ (l : List ℕ). Filling i list list₀ l (numbers level wait addr tray (length out₀))) step.0 run.places) h;
       }
+
+      -- `v` is put into the list, and `k` octets were written
+      pub run_next : i < length list₀ → (v k : ℕ) → v ≡ sent.refusal → k ≡ sent.length
+          → Run level wait addr tray out₀ list₀ (put_mid written (length out - written) out p) (set list i v) left (written + k) (i + 1)
+      run_next h v k ev ek = rw (ev, ek) (run_on h)

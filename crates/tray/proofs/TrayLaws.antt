@@ -15,9 +15,8 @@ use Rattle.onward.specs.Onward.{onward}
 use Rattle.onward.proofs.OnwardLaws.{onward_length, kept}
 use Rattle.node.specs.Node.{forward_refusal}
 use Rattle.node.proofs.ForwardLaws.{forwarded}
-use Rattle.tray.specs.Tray.{read_past, read, tray_refusal, records_of, frame_refusal, sent_on, passed, numbers, outgoing, tray_answer, tray_buffer, tray_list}
+use Rattle.tray.specs.Tray.{read_past, read, tray_refusal, records_of, frame_refusal, sent_on, passed, numbers, outgoing, tray_answer, tray_buffer, tray_list, Forwarded}
 use Rattle.tray.specs.Turns.{Fit}
-use Rattle.tray.specs.declared.Forwarded.{Forwarded}
 use Rattle.tray.proofs.ReadLaws.{read_records}
 use Rattle.tray.proofs.CallLaws.{whole_tray, done_answer, done_buffer, done_list}
 

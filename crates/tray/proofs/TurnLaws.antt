@@ -8,8 +8,7 @@ use lib.Seq.{drop-drop}
 use Rattle.refusals.specs.Refusals.{if_taken}
 use Rattle.refusals.proofs.RefusalLaws.{by_taken, if_taken_lem, if_refused, if_same}
 use Rattle.onward.specs.Onward.{onward}
-use Rattle.onward.specs.Sent.{sent_answer, sent_buffer}
-use Rattle.onward.specs.declared.Sent.{Sent}
+use Rattle.onward.specs.Sent.{Sent, sent_answer, sent_buffer}
 use Rattle.onward.proofs.SentLaws.{answered, whole_output}
 use Rattle.node.specs.Node.{forward_refusal, forward_answer, forward_buffer}
 use Rattle.tray.specs.Tray.{Read, read, tray_refusal, record_head, record_of, records_of, Passed, with_first, frame_refusal, sent_on, passed, outgoing, tray_answer, tray_buffer, tray_list}

@@ -1,11 +1,12 @@
 -- Request A8: the records of a tray, the node's call on the frame of each in turn, and what the whole call answers and leaves.
-use Rattle.std.specs.Prelude.{ℕ, zero, suc, ◌+◌, ◌-◌, ◌/◌, ◌%◌, Bool, ◌&&◌, ◌||◌, cond, List, [], ◌∷◌, ◌++◌, ltb, leb, eqb, length, take, drop}
+use Rattle.std.specs.Prelude.{ℕ, zero, suc, ◌+◌, ◌-◌, ◌/◌, ◌%◌, Bool, ◌&&◌, ◌||◌, cond, List, [], ◌∷◌, ◌++◌, ltb, leb, eqb, length, take, drop, Result, Ok, Err}
 use Rattle.octets.specs.Records.{following, kind}
-use Rattle.refusals.specs.Refusals.{refuse, if_taken}
+use Rattle.refusals.specs.Refusals.{number, refuse, if_taken}
+use Rattle.refusals.specs.declared.Refusal.{Refusal}
 use Rattle.onward.specs.Onward.{onward}
 use Rattle.onward.specs.Sent.{sent_buffer}
 use Rattle.node.specs.Node.{forward_refusal}
-use Rattle.tray.specs.declared.Forwarded.{Forwarded}
+use Rattle.tray.specs.declared.Forwarded.{Forwarded as Done}
 
 -- what is left of a tray begins with a record: of kind 1, for a frame, of a length not under 2, and not cut short
 unfoldable pub whole : List ℕ → Bool
@@ -57,6 +58,17 @@ pub record Passed : Type 0 where
 
 abbrev pub with_first : ℕ → List (List ℕ) → Passed → Passed
 with_first refusal sent p = record { refusals = refusal ∷ p.refusals; sent = sent ++ p.sent }
+
+-- what the whole call answers: the refusal of the tray, the records counted, and the octets written
+pub record Forwarded : Type 0 where
+  pub refusal : ℕ
+  pub records : ℕ
+  pub written : ℕ
+
+-- the paper's number and values for each case
+abbrev pub forwarded_paper : Result Done Refusal → Forwarded
+forwarded_paper (Ok a) = record { refusal = 0; records = a.records; written = a.written }
+forwarded_paper (Err r) = record { refusal = number r; records = 0; written = 0 }
 
 module _ (level wait addr : ℕ) where
   -- the node's number, with the room that is left after the record's four octets: none where fewer are left

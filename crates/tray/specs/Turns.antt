@@ -3,7 +3,7 @@ use Rattle.std.specs.Prelude.{ℕ, ◌+◌, ◌<◌, List, [], ◌∷◌, length
 use Rattle.refusals.specs.Refusals.{◌or_else◌, if_taken, refusal10, refusal15}
 use Rattle.frame.specs.Orders.{taken_refusal}
 use Rattle.node.specs.Node.{forward_answer, forward_buffer}
-use Rattle.onward.specs.declared.Sent.{Sent}
+use Rattle.onward.specs.Sent.{Sent}
 use Rattle.tray.specs.Tray.{Passed, with_first}
 
 -- the node's order where there is room enough: without 16

@@ -14,14 +14,12 @@ overflow_sub-zeros c = let n : ℕ = c.args.n in omega (arith, shifted n (omega 
 pub overflow_sub-zeros-2 : goal.overflow_sub-zeros-2
 overflow_sub-zeros-2 c = let n : ℕ = c.args.n in omega (arith, shifted n (omega arith))
 
-pub returns-then-opening : goal.returns-then-opening
-returns-then-opening c =
+pub returns-in-Opening : goal.returns-in-Opening
+returns-in-Opening c =
     let a = c.args in
-    let p = c.requires in
-    rw (c.if-opening.true, (flags_marked a.n a.w p.1 _ (ap (λ (x : ℕ). x - 1 - a.w) (shifted a.n (omega arith)))).is) (opens_marked (lowest a.n a.w)).is
+    rw (c.in-Opening.is, (flags_marked a.n a.w c.requires.1 _ (ap (λ (x : ℕ). x - 1 - a.w) (shifted a.n (omega arith)))).is) (opens_marked (lowest a.n a.w)).is
 
-pub returns : goal.returns
-returns c =
+pub returns-in-End : goal.returns-in-End
+returns-in-End c =
     let a = c.args in
-    let p = c.requires in
-    rw c.if-opening.false (ends_marked a.n a.w p.1 _ (ap (λ (x : ℕ). x - 1 - a.w) (shifted a.n (omega arith)))).is
+    rw c.in-End.is (ends_marked a.n a.w c.requires.1 _ (ap (λ (x : ℕ). x - 1 - a.w) (shifted a.n (omega arith)))).is

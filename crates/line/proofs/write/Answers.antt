@@ -31,7 +31,7 @@ carry-last-requires c =
     begins_at a.line.now o.new.line a.frame.now a.count c.requires o.result.at o.result.bits o.result.n first in
     let room : 8 * o.result.at + o.result.n + length (stuff 4 (slice 0 (8 * length a.frame.now) (bits a.frame.now))) ≤ 8 * length o.new.line =
     omega (arith, from, t.room, first.long, ap (λ b. length (stuff 4 b)) (whole_frame a.frame.now)) in
-    (all.0, all.1, all.2, first.short, first.fits, room)
+    (all.2, room)
 
 -- where the closing flag begins, and that it has room there
 pub close_line-requires : goal.close_line-requires
@@ -43,10 +43,7 @@ close_line-requires c =
     let e : 8 * k.result.at + k.result.n ≡ cond (eqb a.count 0) 8 a.count + length (sent_as a.frame.now) =
     closes_at a.line.now o.new.line a.frame.now a.count c.requires o.result.at o.result.bits o.result.n o.ensures
     k.new.out k.result.at k.result.bits k.result.n k.ensures in
-    (k.ensures.short, k.ensures.fits, omega (arith, t.room, k.ensures.long, o.ensures.long), omega (arith, t.countable))
-
-pub shape_of-line : goal.shape_of-line
-shape_of-line c = c.close_line.auto.line ∙ c.carry-last.ensures.long ∙ c.open_line-first.ensures.long
+    (omega (arith, t.room, k.ensures.long, o.ensures.long), omega (arith, t.countable))
 
 pub returns : goal.returns
 returns c =

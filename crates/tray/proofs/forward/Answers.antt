@@ -1,36 +1,36 @@
+use mathlib.Core.Path.{refl, sym}
+use native.Mathlib.Omega.{arith}
 use lib.ListN.{length}
+use Rattle.std.proofs.lemmas.Result.{err_from_is_err_and}
+use Rattle.refusals.specs.Refusals.{number}
+use Rattle.refusals.proofs.RefusalLaws.{number_positive}
 use Rattle.onward.specs.Onward.{wait_of}
-use Rattle.tray.proofs.CountLaws.{tray_judged, places_enough}
-use Rattle.tray.proofs.CallLaws.{call_refused, call_done}
+use Rattle.tray.proofs.CountLaws.{tray_judged}
+use Rattle.tray.proofs.CallLaws.{tray_whole, front_lent, call_refused, call_done}
 use Rattle.tray.proofs.forward.Goals as goal
 
-pub returns-then-refusal-ne0 : goal.returns-then-refusal-ne0
-returns-then-refusal-ne0 c =
-    let n = c.before in
-    let a = n.args in
-    let k = c.refuse-refusal in let made_of =
-    call_refused a.level (wait_of a.from a.to) a.address a.tray.now a.out.now a.list.now k.result (tray_judged a.tray.now n.count_records-records.result.count n.count_records-records.result.end (length a.list.now) k.result n.count_records-records.ensures k.ensures) c.if-refusal-ne0.true in record { answer = made_of.0; buffer = made_of.1.0; list = made_of.1.1 }
-
-pub forward_records-written-requires : goal.forward_records-written-requires
-forward_records-written-requires c =
-    let t = c.before in
-    let n = t.before in
-    let a = n.args in
-    let k = t.refuse-refusal in
-    (n.count_records-records.ensures.many, places_enough n.count_records-records.result.end (length a.tray.now) (length a.list.now) n.count_records-records.result.count k.result k.ensures t.if-refusal-ne0.false)
-
-pub shape_of-out : goal.shape_of-out
-shape_of-out c = c.forward_records-written.auto.out
-
-pub shape_of-list : goal.shape_of-list
-shape_of-list c = c.forward_records-written.auto.list
+pub returns-in_err-refuse : goal.returns-in_err-refuse
+returns-in_err-refuse c =
+    let a = c.args in
+    let h = a.hop in
+    let n = c.count_records-count in
+    let s = c.in_err-refuse in
+    let judged = tray_judged a.tray.now n.result.count n.result.end (length a.list.now) (number s.field-0.0) n.ensures s.ensures in
+    let made_of =
+    call_refused h.level (wait_of h.from h.to) h.address a.tray.now a.out.now a.list.now (number s.field-0.0) judged (λ z. let p = number_positive s.field-0.0 in omega (arith, p, z)) in
+    let r = err_from_is_err_and c.from_residual.result c.from_residual.ensures.1 in
+    rw (r.1, r.2) (record { answer = made_of.0; buffer = made_of.1.0; list = made_of.1.1 })
 
 pub returns : goal.returns
 returns c =
-    let q = c.before in
-    let t = q.before in
-    let n = t.before in
-    let a = n.args in
-    let k = t.refuse-refusal in
-    let w = q.forward_records-written in let made_of =
-    call_done a.level (wait_of a.from a.to) a.address a.tray.now a.out.now a.list.now k.result (tray_judged a.tray.now n.count_records-records.result.count n.count_records-records.result.end (length a.list.now) k.result n.count_records-records.ensures k.ensures) t.if-refusal-ne0.false n.count_records-records.result.count w.result w.new.out w.new.list n.count_records-records.ensures.many w.ensures.written w.ensures.buffer w.ensures.list in record { answer = made_of.0; buffer = made_of.1.0; list = made_of.1.1 }
+    let a = c.args in
+    let h = a.hop in
+    let n = c.count_records-count in
+    let w = c.forward_records-written in
+    let judged = tray_judged a.tray.now n.result.count n.result.end (length a.list.now) 0 n.ensures c.in_ok-refuse.ensures in
+    let room = (tray_whole a.tray.now (length a.list.now) (sym judged)).1 in
+    let list = front_lent a.list.now w.new.list _ n.result.count (omega (arith, room, n.ensures.many)) w.auto.list w.ensures.list in
+    let made_of =
+    call_done h.level (wait_of h.from h.to) h.address a.tray.now a.out.now a.list.now 0 judged refl n.result.count w.result w.new.out _ n.ensures.many
+    w.ensures.written w.ensures.buffer list in
+    record { answer = made_of.0; buffer = made_of.1.0; list = made_of.1.1 }

@@ -1,71 +1,70 @@
-use Prim.Native.Nat.{◌+◌, ◌≤◌}
+use Prim.Native.Nat.{◌+◌, ◌-◌, ◌≤◌, ◌<◌}
+use mathlib.Core.Path.{◌∙◌}
 use native.Mathlib.Omega.{arith}
-use lib.ListN.{length}
+use lib.ListN.{length, set}
+use borrow.Rule.Slice.PartMut.{put_mid}
 use Rattle.onward.specs.Onward.{wait_of}
-use Rattle.tray.proofs.RunLaws.{run_start, run_size, run_next, run_over}
+use Rattle.onward.specs.Sent.{sent_paper}
+use Rattle.tray.specs.Tray.{read}
+use Rattle.tray.proofs.RecordLaws.{told_refusal, told_length}
+use Rattle.tray.proofs.RunLaws.{Run, run_size, run_frame, run_next, run_over}
 use Rattle.tray.proofs.forward_records.Goals as goal
 
-pub loop-i-init : goal.loop-i-init
-loop-i-init c =
-    let a = c.args in
-    run_start a.level (wait_of a.from a.to) a.address a.tray.now a.out.now a.list.now
-
-pub slice_bounds-two_octets-count : goal.slice_bounds-two_octets-count
-slice_bounds-two_octets-count c = c.loop-i.invariant.within
-
-pub slice_bounds-two_octets-start : goal.slice_bounds-two_octets-start
-slice_bounds-two_octets-start c = c.loop-i.invariant.within
-
--- the record that is next lies within the tray
-here : (c : goal.After-two_octets)
-    → (4 ≤ 2 + c.two_octets.result)
-    × (c.loop-i.at + (2 + c.two_octets.result) ≤ length c.args.tray.now)
+-- the record that is next lies within what is left of the tray
+here : (c : goal.After-two_octets) → (4 ≤ 2 + c.two_octets.result) × (2 + c.two_octets.result ≤ length c.loop-number.rest.now)
 here c =
-    let m = c.before in
-    let l = m.loop-i in
-    let b = m.before in
-    let a = b.args in
-    run_size a.level (wait_of a.from a.to) a.address a.tray.now a.out.now a.list.now l.out l.list l.at l.written l.i l.invariant (omega (arith, m.loop-i-test.true, b.requires.0)) c.two_octets.result c.two_octets.ensures.0
+    let a = c.args in
+    let h = a.hop in
+    let l = c.loop-number in
+    run_size h.level (wait_of h.from h.to) h.address a.tray.now a.out.now a.list.now l.out l.list l.rest.now l.written l.number-index l.invariant (omega (arith, c.loop-number-test.true, c.requires)) c.two_octets.result c.two_octets.ensures.0
 
-pub overflow_add-at : goal.overflow_add-at
-overflow_add-at c = let z = here c in omega (arith, z.0, z.1)
+-- its frame is sent on, or refused
+next : (c : goal.After-unwrap_or-written)
+    → Run c.args.hop.level (wait_of c.args.hop.from c.args.hop.to) c.args.hop.address c.args.tray.now c.args.out.now c.args.list.now
+    (put_mid c.loop-number.written (length c.loop-number.out - c.loop-number.written) c.loop-number.out c.forward_record-sent.new.out)
+    (set c.loop-number.list c.loop-number.number-index c.number_of.result)
+    c.split_at.result.1.now
+    (c.loop-number.written + c.unwrap_or-written.result)
+    (c.loop-number.number-index + 1)
+next c =
+    let a = c.args in
+    let h = a.hop in
+    let l = c.loop-number in
+    let n = c.two_octets in
+    let w = c.forward_record-sent in
+    let more : l.number-index < length (read a.tray.now).frames = omega (arith, c.loop-number-test.true, c.requires) in
+    let f = run_frame h.level (wait_of h.from h.to) h.address a.tray.now a.out.now a.list.now l.out l.list l.rest.now l.written l.number-index l.invariant more n.result n.ensures.0 c.split_at.result.0.now c.split_at.ensures.front in
+    run_next h.level (wait_of h.from h.to) h.address a.tray.now a.out.now a.list.now l.out l.list l.rest.now l.written l.number-index l.invariant more n.result n.ensures.0 _ c.split_at.result.1.now f c.split_at.ensures.back (sent_paper w.result) w.new.out w.ensures.answer w.ensures.buffer c.loop-number-test.true c.number_of.result c.unwrap_or-written.result (c.number_of.ensures ∙ told_refusal w.result) (c.unwrap_or-written.ensures ∙ told_length w.result)
+
+pub split_at-requires : goal.split_at-requires
+split_at-requires c = (here c).1
 
 pub slice_bounds-forward_record-count : goal.slice_bounds-forward_record-count
-slice_bounds-forward_record-count c = let z = here c in omega (arith, z.0, z.1)
+slice_bounds-forward_record-count c =
+    let a = c.args in
+    let h = a.hop in
+    let l = c.loop-number in
+    let z = run_size h.level (wait_of h.from h.to) h.address a.tray.now a.out.now a.list.now l.out l.list l.rest.now l.written l.number-index l.invariant (omega (arith, c.loop-number-test.true, c.requires)) c.two_octets.result c.two_octets.ensures.0 in
+    omega (arith, z.0, c.split_at.ensures.front_len)
 
 pub slice_bounds-forward_record-start : goal.slice_bounds-forward_record-start
-slice_bounds-forward_record-start c = let z = here c in omega (arith, z.0, z.1)
-
-pub slice_bounds-forward_record-end : goal.slice_bounds-forward_record-end
-slice_bounds-forward_record-end c = let z = here c in omega (arith, z.0, z.1)
-
-pub loop-i-preserved : goal.loop-i-preserved
-loop-i-preserved c =
-    let w = c.before in
-    let t = w.before in
-    let m = t.before in
-    let l = m.loop-i in
-    let b = m.before in
-    let a = b.args in
-    run_next a.level (wait_of a.from a.to) a.address a.tray.now a.out.now a.list.now l.out l.list l.at l.written l.i l.invariant (omega (arith, m.loop-i-test.true, b.requires.0)) t.two_octets.result t.two_octets.ensures.0 w.forward_record-sent.result w.forward_record-sent.new.out w.forward_record-sent.ensures.answer w.forward_record-sent.ensures.buffer (omega (arith, m.loop-i-test.true, b.requires.1))
+slice_bounds-forward_record-start c =
+    let a = c.args in
+    let h = a.hop in
+    let l = c.loop-number in
+    let z = run_size h.level (wait_of h.from h.to) h.address a.tray.now a.out.now a.list.now l.out l.list l.rest.now l.written l.number-index l.invariant (omega (arith, c.loop-number-test.true, c.requires)) c.two_octets.result c.two_octets.ensures.0 in
+    omega (arith, z.0, c.split_at.ensures.front_len)
 
 pub overflow_add-written : goal.overflow_add-written
-overflow_add-written c =
-    let l = c.loop-i in
-    let a = c.args in
-    let w = c.forward_record-sent in
-    let again = run_next a.level (wait_of a.from a.to) a.address a.tray.now a.out.now a.list.now l.out l.list l.at l.written l.i l.invariant (omega (arith, c.loop-i-test.true, c.requires.0)) c.two_octets.result c.two_octets.ensures.0 w.result w.new.out w.ensures.answer w.ensures.buffer (omega (arith, c.loop-i-test.true, c.requires.1)) in
-    omega (arith, again.octets.room)
+overflow_add-written c = omega (arith, (next c).octets.room)
 
-pub shape_of-out : goal.shape_of-out
-shape_of-out c = c.loop-i.invariant.octets.same
-
-pub shape_of-list : goal.shape_of-list
-shape_of-list c = c.loop-i.invariant.places.same
+pub loop-number-preserved : goal.loop-number-preserved
+loop-number-preserved c = next c
 
 pub returns : goal.returns
 returns c =
-    let l = c.loop-i in
-    let s = c.before in
-    let a = s.args in
-    let o = run_over a.level (wait_of a.from a.to) a.address a.tray.now a.out.now a.list.now l.out l.list l.at l.written l.i l.invariant (omega (arith, c.loop-i-test.false, s.requires.0)) in record { written = o.0; buffer = o.1; list = o.2 }
+    let a = c.args in
+    let h = a.hop in
+    let l = c.loop-number in
+    let o = run_over h.level (wait_of h.from h.to) h.address a.tray.now a.out.now a.list.now l.out l.list l.rest.now l.written l.number-index l.invariant (omega (arith, c.loop-number-test.false, c.requires)) (omega (arith, c.loop-number-test.false)) in
+    record { written = o.0; buffer = o.1; list = o.2 }
