@@ -1,35 +1,54 @@
 -- The calls on a record by value: what its numbers make, and what waits after it.
-use Prim.Native.Nat.{ℕ, ◌+◌, ◌≤◌, ◌<◌}
-use mathlib.Core.Path.{◌≡◌, sym, ap, ap₂, ◌∙◌}
-use mathlib.Core.List.{List, ◌++◌, append-nil}
+use Prim.Native.Nat.{ℕ, ◌+◌, ◌<◌}
+use mathlib.Core.Path.{◌≡◌, refl, sym, ap, ap₂, ◌∙◌}
+use mathlib.Core.List.{List, []}
 use native.Mathlib.Omega.{arith}
-use lib.ListN.{length, take, drop, set, drop_of_length-le}
-use lib.Seq.{take_all}
+use lib.ListN.{length, set}
 use Rattle.refusals.proofs.RefusalLaws.{if_taken_lem, if_refused}
 use Rattle.ring.specs.Ring.{place_after}
 use Rattle.ring.proofs.RingLaws.{place_below}
 use Rattle.totals.specs.Totals.{raised, lowered}
 use Rattle.totals.specs.Parts.{droppable, Totalled}
-use Rattle.totals.proofs.TotalsLaws.{droppable_few}
+use Rattle.totals.proofs.TotalsLaws.{lowered_none}
 use Rattle.room.specs.Plain.{entered, left}
 use Rattle.room.specs.Waiting.{waiting, outside}
 use Rattle.room.specs.Rules.{enter_refusal, with_frame, enter_queue, enter_store, take_buffer, take_queue}
-use Rattle.room.specs.Parts.{queue_with, bare, entry_by, spot_by, store_by, step_of}
+use Rattle.room.specs.Parts.{queue_with, bare, unclocked, outlined, numbered, clocked, entry_by, Spot, spot_by, store_by, Step, stayed, step_of}
 use Rattle.room.specs.declared.Queue.{Queue}
-use Rattle.room.specs.declared.Spot.{Spot}
-use Rattle.room.specs.declared.Step.{Step}
+use Rattle.room.specs.declared.numbers.Outline.{Outline}
+use Rattle.room.specs.declared.numbers.Numbers.{Numbers}
 use Rattle.room.proofs.EnterLaws.{by_numbers, roomy, store_is, enter_waits}
 use Rattle.room.proofs.TakeLaws.{take_waits, slots_stay, blocks_few, totals_fall}
-use Rattle.queue.specs.Calls.{enter_answer, take_answer}
-use Rattle.queue.specs.declared.Entered.{Entered}
-use Rattle.queue.specs.declared.Taken.{Taken}
+use Rattle.queue.specs.Calls.{Entered, enter_answer, Taken, take_answer}
 
--- all 32 copied
-pub copied_whole : (a z w : List ℕ) (i : ℕ) → length a ≡ 32 → length z ≡ 32 → i ≡ 32 → w ≡ take i a ++ drop i z → w ≡ a
-copied_whole a z w i la lz ei ew =
-    ew ∙ ap₂ ◌++◌ (take_all i a (omega arith)) (drop_of_length-le z {i = i} (omega arith)) ∙ append-nil a
+-- what a call goes by is the record, whose lengths came as wider numbers
+pub same_record : (q : Queue) (o : Outline) (ls : List ℕ) → outlined o ≡ bare q.head q.first q.count [] q.totals → ls ≡ q.lengths
+    → bare o.head o.first o.count ls o.totals.now ≡ unclocked q
+same_record q o ls e el =
+    ap (λ (p : Queue). bare p.head p.first p.count ls p.totals) e ∙ ap (λ (l : List ℕ). bare q.head q.first q.count l q.totals) el
 
--- what entry by numbers has made, of a record whose lengths came as wider numbers; it does not look at the readings
+-- so it has 32 slots and three totals
+module _ (q : Queue) (w : Numbers) (e : numbered w ≡ unclocked q) where
+  pub lengths_are_32 : length q.lengths ≡ 32
+  lengths_are_32 = sym (ap (λ (p : Queue). length p.lengths) e) ∙ w.slots.all
+
+  pub totals_are_3 : length q.totals ≡ 3
+  totals_are_3 = sym (ap (λ (p : Queue). length p.totals) e) ∙ w.outline.three
+
+  -- and is whole with its clock readings
+  pub whole : clocked w q.clocks ≡ q
+  whole = ap (λ (p : Queue). queue_with p.head p.first p.count p.lengths q.clocks p.totals) e
+
+-- an entry goes by no clock reading of those that wait
+spot_unclocked : (n : ℕ) (q : Queue) (f : List ℕ) → spot_by n (unclocked q) f ≡ spot_by n q f
+unfolding spot_by entry_by outside
+spot_unclocked n q f = refl
+
+store_unclocked : (s : List ℕ) (q : Queue) (f : List ℕ) → store_by s (unclocked q) f ≡ store_by s q f
+unfolding store_by entry_by outside
+store_unclocked s q f = refl
+
+-- what entry has made
 pub record Met (s : List ℕ) (q : Queue) (f : List ℕ) (spot : Spot) (t : List ℕ) : Type 0 where
   pub lengths_32 : length q.lengths ≡ 32
   pub clocks_32 : length q.clocks ≡ 32
@@ -37,26 +56,22 @@ pub record Met (s : List ℕ) (q : Queue) (f : List ℕ) (spot : Spot) (t : List
   pub spot_is : spot ≡ spot_by (length s) q f
   pub store_by_lem : t ≡ store_by s q f
 
-pub met : (s : List ℕ) (q : Queue) (f : List ℕ) (spot : Spot) (t ls cs ts : List ℕ) → ls ≡ q.lengths → length ls ≡ 32 → cs ≡ q.clocks → length cs ≡ 32 → ts ≡ q.totals → length ts ≡ 3
-    → spot ≡ spot_by (length s) (bare q.head q.first q.count ls ts) f → t ≡ store_by s (bare q.head q.first q.count ls ts) f → Met s q f spot t
-unfolding spot_by store_by entry_by outside
-met s q f spot t ls cs ts el ll ec lc ets lt es et =
+pub met : (s : List ℕ) (q : Queue) (f : List ℕ) (spot : Spot) (t : List ℕ) (w : Numbers) → numbered w ≡ unclocked q → length q.clocks ≡ 32
+    → spot ≡ spot_by (length s) (numbered w) f → t ≡ store_by s (numbered w) f → Met s q f spot t
+met s q f spot t w e lc es et =
     record {
-      lengths_32 = sym (ap length el) ∙ ll;
-      clocks_32 = sym (ap length ec) ∙ lc;
-      totals_3 = sym (ap length ets) ∙ lt;
-      spot_is = es ∙ ap₂ (λ (x y : List ℕ). spot_by (length s) (bare q.head q.first q.count x y) f) el ets;
-      store_by_lem = et ∙ ap₂ (λ (x y : List ℕ). store_by s (bare q.head q.first q.count x y) f) el ets;
+      lengths_32 = lengths_are_32 q w e;
+      clocks_32 = lc;
+      totals_3 = totals_are_3 q w e;
+      spot_is = es ∙ ap (λ (p : Queue). spot_by (length s) p f) e ∙ spot_unclocked (length s) q f;
+      store_by_lem = et ∙ ap (λ (p : Queue). store_by s p f) e ∙ store_unclocked s q f;
     }
 
 -- a slot for the frame, and the totals that it is counted in
 pub record Slotted (q : Queue) (f : List ℕ) (spot : Spot) : Type 0 where
   pub after_last : spot.slot ≡ place_after q.first q.count 32
   pub below : spot.slot < 32
-  pub short : length f ≤ 138
-  pub few : q.count < 32
   pub counted : spot.blocks ≡ droppable f
-  pub blocks : spot.blocks < 4
   pub totals : Totalled q.totals
 
 -- the record with one more, by its slots and totals
@@ -77,10 +92,7 @@ module _ (s : List ℕ) (q : Queue) (f : List ℕ) (clock : ℕ) (spot : Spot) (
       record {
         after_last = e;
         below = rw e (place_below q.first q.count 32 y.inside.slot (omega (arith, y.few)));
-        short = y.short;
-        few = y.few;
         counted = b;
-        blocks = rw b (droppable_few f);
         totals = record { three = m.totals_3; within = y.inside.totals };
       }
 
@@ -135,30 +147,30 @@ module _ (s : List ℕ) (q : Queue) (ll : length q.lengths ≡ 32) (lc : length 
       ∙ ap (taken_with (step_of s q to level addr out) (take_queue s q to level addr out).lengths (take_queue s q to level addr out).clocks) fallen in
       (made, ap (λ (a : Taken). waiting s a.after) made ∙ take_waits s q ll lc to level addr out ∙ ap (λ (y : Step). left y.refusal (waiting s q)) (sym e))
 
--- what taking by numbers has made, of a record whose lengths came as wider numbers
-module _ (s : List ℕ) (q : Queue) (to level addr : ℕ) (out ls cs ts : List ℕ) (el : ls ≡ q.lengths) (ll : length ls ≡ 32) (ec : cs ≡ q.clocks) (lc : length cs ≡ 32)
-    (ets : ts ≡ q.totals) (lt : length ts ≡ 3) (x : Step) (ex : x ≡ step_of s (queue_with q.head q.first q.count ls cs ts) to level addr out) where
-  asked_is : queue_with q.head q.first q.count ls cs ts ≡ q
-  asked_is =
-      ap₂ (λ (l c : List ℕ). queue_with q.head q.first q.count l c ts) el ec ∙ ap (queue_with q.head q.first q.count q.lengths q.clocks) ets
-
+-- what taking has made
+module _ (s : List ℕ) (q : Queue) (to level addr : ℕ) (out : List ℕ) (w : Numbers) (e : numbered w ≡ unclocked q) (lc : length q.clocks ≡ 32) (x : Step)
+    (ex : x ≡ step_of s (clocked w q.clocks) to level addr out) where
   step_is : x ≡ step_of s q to level addr out
-  step_is = ex ∙ ap (λ (p : Queue). step_of s p to level addr out) asked_is
+  step_is = ex ∙ ap (λ (p : Queue). step_of s p to level addr out) (whole q w e)
 
   pub taken_blocks : x.blocks < 4
-  taken_blocks = rw step_is (blocks_few s q (sym (ap length el) ∙ ll) (sym (ap length ec) ∙ lc) to level addr out)
+  taken_blocks = rw step_is (blocks_few s q (lengths_are_32 q w e) lc to level addr out)
 
-  -- what is answered, and left in the buffer, whatever becomes of the totals
-  pub taken_sent : (after : List ℕ) → after ≡ take_buffer s (queue_with q.head q.first q.count ls cs ts) to level addr out
-      → (x.refusal ≡ (take_answer s q to level addr out).refusal) × ((x.length ≡ (take_answer s q to level addr out).length) × (after ≡ take_buffer s q to level addr out))
-  unfolding step_of take_answer
-  taken_sent after eb =
-      (ap (λ (y : Step). y.refusal) step_is, (ap (λ (y : Step). y.length) step_is, eb ∙ ap (λ (p : Queue). take_buffer s p to level addr out) asked_is))
-
-  pub taken_by : (after : List ℕ) → after ≡ take_buffer s (queue_with q.head q.first q.count ls cs ts) to level addr out
-      → (us : List ℕ) → ((f : List ℕ) → x.blocks ≡ droppable f → us ≡ lowered f ts)
+  pub taken_by : (after : List ℕ) → after ≡ take_buffer s (clocked w q.clocks) to level addr out
+      → (us : List ℕ) → ((f : List ℕ) → x.blocks ≡ droppable f → us ≡ lowered f q.totals)
       → (taken_with x q.lengths q.clocks us ≡ take_answer s q to level addr out)
       × ((after ≡ take_buffer s q to level addr out) × (waiting s (taken_with x q.lengths q.clocks us).after ≡ left x.refusal (waiting s q)))
   taken_by after eb us lower =
-      let t = taking s q (sym (ap length el) ∙ ll) (sym (ap length ec) ∙ lc) (sym (ap length ets) ∙ lt) to level addr out x us step_is (λ f b. lower f b ∙ ap (lowered f) ets) in
-      (t.0, (eb ∙ ap (λ (p : Queue). take_buffer s p to level addr out) asked_is, t.1))
+      let t = taking s q (lengths_are_32 q w e) lc (totals_are_3 q w e) to level addr out x us step_is lower in
+      (t.0, (eb ∙ ap (λ (p : Queue). take_buffer s p to level addr out) (whole q w e), t.1))
+
+-- and what a take that is refused has: the record stays
+module _ (s : List ℕ) (q : Queue) (to level addr : ℕ) (out : List ℕ) (w : Numbers) (e : numbered w ≡ unclocked q) (lc : length q.clocks ≡ 32) (r : ℕ)
+    (ex : stayed r 0 (clocked w q.clocks) ≡ step_of s (clocked w q.clocks) to level addr out) (after : List ℕ) (eb : after ≡ take_buffer s (clocked w q.clocks) to level addr out) where
+  pub taken_none : (record { refusal = r; length = 0; after = q } ≡ take_answer s q to level addr out)
+      × ((after ≡ take_buffer s q to level addr out) × (waiting s q ≡ left r (waiting s q)))
+  taken_none =
+      let lt : length q.totals ≡ 3 = totals_are_3 q w e in
+      let t = taken_by s q to level addr out w e lc _ ex after eb q.totals (λ f b. sym (lowered_none f q.totals lt (sym b))) in
+      let same : queue_with w.outline.head w.outline.first w.outline.count q.lengths q.clocks q.totals ≡ q = ap (λ (p : Queue). queue_with p.head p.first p.count q.lengths q.clocks q.totals) e in
+      (ap (λ (p : Queue). record { refusal = r; length = 0; after = p }) (sym same) ∙ t.0, (t.1.0, ap (waiting s) (sym same) ∙ t.1.1))

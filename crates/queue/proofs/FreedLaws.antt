@@ -10,14 +10,13 @@ use Rattle.refusals.specs.Refusals.{◌or_else◌, address_bad}
 use Rattle.refusals.proofs.RefusalLaws.{or_else_zero, if_taken_lem, if_refused, by_taken}
 use Rattle.frame.specs.Orders.{taken_refusal}
 use Rattle.onward.specs.Onward.{wait_of, onward}
-use Rattle.onward.specs.declared.Sent.{Sent}
+use Rattle.onward.specs.Sent.{Sent}
 use Rattle.totals.specs.Totals.{levels, total}
 use Rattle.totals.proofs.TotalsLaws.{total_is, total_most}
 use Rattle.room.specs.Plain.{Kept, kept, together, enter_order, refusal26, first_answer, left, gives_all}
 use Rattle.room.specs.Waiting.{waiting, Lets, Counted}
-use Rattle.room.specs.Rules.{freed_refusal, freed_answer}
+use Rattle.room.specs.Rules.{freed_refusal, GivenBack, freed_answer}
 use Rattle.room.specs.declared.Queue.{Queue}
-use Rattle.room.specs.declared.GivenBack.{GivenBack}
 use Rattle.room.proofs.InsideLaws.{inside}
 use Rattle.room.proofs.GivesLaws.{gives_all_none}
 use Rattle.room.proofs.FreedLaws.{freed_14}

@@ -6,7 +6,7 @@ use native.Mathlib.Omega.{arith}
 use lib.ListN.{length}
 use borrow.Author.Tests.{le-ltb}
 use Rattle.refusals.specs.Refusals.{◌or_else◌}
-use Rattle.onward.specs.declared.Sent.{Sent}
+use Rattle.onward.specs.Sent.{Sent}
 use Rattle.ring.specs.Ring.{sum}
 use Rattle.totals.specs.Totals.{any_above}
 use Rattle.room.specs.Plain.{Kept, enter_order, refusal26, sent_past, buffer_past, entered, left, gives_all}

@@ -1,7 +1,7 @@
 -- Request A6: any sequence of calls, store and record being handed to each call as the last one left them, and the same calls on a plain list. A question
 -- (request A7) moves nothing: it may be asked after any of them.
 use Rattle.std.specs.Prelude.{ℕ, ◌+◌, List, [], ◌∷◌, replicate}
-use Rattle.onward.specs.declared.Sent.{Sent}
+use Rattle.onward.specs.Sent.{Sent}
 use Rattle.room.specs.Plain.{Kept, enter_order, refusal26, sent_past, buffer_past, entered, left}
 use Rattle.room.specs.Waiting.{waiting}
 use Rattle.room.specs.Rules.{enter_store, take_buffer}

@@ -1,24 +1,20 @@
 // The waiting room at a node: frames wait in a lent store, first in, first out, until they are sent on; and what a level would give back of them.
 #![tactic(auto)]
 
-ghost use Rattle.std.specs.Prelude.{◌≡◌, length};
+ghost use Rattle.std.specs.Prelude.{◌≡◌, []};
 ghost use Rattle.ring.specs.Parts.{Slots};
 ghost use Rattle.room.specs.Plain.{entered, left};
 ghost use Rattle.room.specs.Waiting.{waiting};
-ghost use Rattle.room.specs.Rules.{enter_store, take_buffer, freed_answer};
-ghost use Rattle.queue.specs.Calls.{fresh_queue, enter_answer, take_answer};
+ghost use Rattle.room.specs.Parts.{bare, unclocked, outlined, numbered};
+ghost use Rattle.room.specs.Rules.{enter_store, take_buffer, freed_answer, freed_paper};
+ghost use Rattle.queue.specs.Calls.{fresh_queue, enter_answer, entered_paper, take_answer, taken_paper};
 
-use room::{GivenBack, Queue};
+use refusals::Refusal;
+use room::{Numbers, Outline, Queue};
 
-#[derive(Clone, Copy)]
-pub struct Entered {
-    pub refusal: u8,
-    pub after: Queue,
-}
-
+// What a take answers of the frame that it sent on: its length, and the record without it.
 #[derive(Clone, Copy)]
 pub struct Taken {
-    pub refusal: u8,
     pub length: usize,
     pub after: Queue,
 }
@@ -36,113 +32,88 @@ pub fn fresh() -> Queue
     }
 }
 
-// The lengths as numbers that a machine adds four at a time.
+// The lengths as numbers that a machine adds four at a time. A loop: the array's `map` goes octet by octet, four times as slow.
 fn widened(lengths: [u8; 32]) -> [u32; 32]
     ensures { (result ≡ lengths) × Slots result }
 {
-    let mut wide = [0u32; 32];
-    let mut i: usize = 0;
-    while i < 32 {
-        wide[i] = lengths[i] as u32;
-        i += 1;
+    let mut wide = [0; 32];
+    for i in 0..32 {
+        wide[i] = u32::from(lengths[i]);
     }
     wide
 }
 
-// The readings as they are, and that they are 32, which a field's type does not tell a proof.
-fn readings(clocks: [u32; 32]) -> [u32; 32]
-    ensures { (result ≡ clocks) × (length result ≡ 32) }
+// What a record shows without its slots, and with them.
+fn outline(q: &Queue) -> Outline<'_>
+    ensures { outlined result ≡ bare q.now.head q.now.first q.now.count [] q.now.totals }
 {
-    clocks
+    Outline {
+        head: q.head,
+        first: q.first,
+        count: q.count,
+        totals: &q.totals,
+    }
 }
 
-// The lengths and the totals as they are, and the same of them.
-fn slots(lengths: [u8; 32]) -> [u8; 32]
-    ensures { (result ≡ lengths) × Slots result }
+fn numbers<'a>(q: &'a Queue, wide: &'a [u32; 32]) -> Numbers<'a>
+    requires { (wide.now ≡ q.now.lengths) × Slots wide.now }
+    ensures { numbered result ≡ unclocked q.now }
 {
-    lengths
-}
-
-fn three(totals: [u32; 3]) -> [u32; 3]
-    ensures { (result ≡ totals) × (length result ≡ 3) }
-{
-    totals
+    Numbers {
+        outline: outline(q),
+        lengths: wide,
+    }
 }
 
 // A frame comes at the clock reading given, and waits behind those that wait. Refused, store and record are as they came.
-pub fn enter(store: &mut [u8], q: Queue, frame: &[u8], clock: u32) -> Entered
-    ensures answer { result ≡ enter_answer store.old q frame.now clock }
+pub fn enter(store: &mut [u8], q: Queue, frame: &[u8], clock: u32) -> Result<Queue, Refusal>
+    ensures answer { entered_paper q result ≡ enter_answer store.old q frame.now clock }
     ensures store { store.new ≡ enter_store store.old q frame.now }
-    ensures waits { waiting store.new result.after ≡ entered result.refusal (waiting store.old q) frame.now clock }
+    ensures waits { waiting store.new (entered_paper q result).after ≡ entered (entered_paper q result).refusal (waiting store.old q) frame.now clock }
 {
-    let mut lengths = q.lengths;
-    let wide = widened(lengths);
-    let mut clocks = q.clocks;
-    let read = readings(clocks);
-    let came = q.totals;
-    let mut totals = three(came);
-    let spot = room::enter_by(store, q.head, q.first, q.count, &wide, &totals, frame);
-    if spot.refusal != 0 {
-        return Entered {
-            refusal: spot.refusal,
-            after: q,
-        };
-    }
+    let wide = widened(q.lengths);
+    let spot = numbers(&q, &wide).enter(store, frame)?;
     let slot = spot.slot as usize;
-    let count = q.count + 1;
-    lengths[slot] = frame.len() as u8;
-    clocks[slot] = clock;
-    totals::raise(&mut totals, spot.blocks);
-    Entered {
-        refusal: 0,
-        after: Queue {
-            head: q.head,
-            first: q.first,
-            count,
-            lengths,
-            clocks,
-            totals,
-        },
-    }
+    let mut after = q;
+    after.count += 1;
+    after.lengths[slot] = frame.len() as u8;
+    after.clocks[slot] = clock;
+    totals::raise(&mut after.totals, spot.blocks);
+    Ok(after)
 }
 
 // The first frame is sent on by the node's rule, its wait running from its arrival to the present reading. Refused, it waits on.
-pub fn take(store: &[u8], q: Queue, to: u32, level: u8, address: u16, out: &mut [u8]) -> Taken
-    ensures answer { result ≡ take_answer store.now q to level address out.old }
+// The other reading is the frame's own, so that what is given is no hop yet.
+pub fn take(
+    store: &[u8],
+    q: Queue,
+    to: u32,
+    level: u8,
+    address: u16,
+    out: &mut [u8],
+) -> Result<Taken, Refusal>
+    ensures answer { taken_paper q result ≡ take_answer store.now q to level address out.old }
     ensures buffer { out.new ≡ take_buffer store.now q to level address out.old }
-    ensures waits { waiting store.now result.after ≡ left result.refusal (waiting store.now q) }
+    ensures waits { waiting store.now (taken_paper q result).after ≡ left (taken_paper q result).refusal (waiting store.now q) }
 {
-    let lengths = q.lengths;
-    let wide = widened(lengths);
-    let clocks = q.clocks;
-    let read = readings(clocks);
-    let came = q.totals;
-    let mut totals = three(came);
-    let step = room::take_by(
-        store, q.head, q.first, q.count, &wide, &read, &totals, to, level, address, out,
-    );
-    totals::lower(&mut totals, step.blocks);
-    Taken {
-        refusal: step.refusal,
+    let wide = widened(q.lengths);
+    let step = numbers(&q, &wide).take(&q.clocks, store, to, level, address, out)?;
+    let mut after = Queue {
+        head: step.head,
+        first: step.first,
+        count: step.count,
+        ..q
+    };
+    totals::lower(&mut after.totals, step.blocks);
+    Ok(Taken {
         length: step.length,
-        after: Queue {
-            head: step.head,
-            first: step.first,
-            count: step.count,
-            lengths,
-            clocks,
-            totals,
-        },
-    }
+        after,
+    })
 }
 
 // What a level would give back of all that wait: the total kept for it, whatever waits.
-pub fn freed(q: Queue, level: u8) -> GivenBack
-    ensures { result ≡ freed_answer q level }
+pub fn freed(q: Queue, level: u8) -> Result<u32, Refusal>
+    ensures { freed_paper result ≡ freed_answer q level }
 {
-    let lengths = q.lengths;
-    let short = slots(lengths);
-    let came = q.totals;
-    let totals = three(came);
-    room::freed_by(q.head, q.first, q.count, &totals, level)
+    outline(&q).freed(level)
 }

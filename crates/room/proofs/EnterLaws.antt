@@ -10,23 +10,21 @@ use lib.Seq.{take_at, drop_at, length-take-le}
 use borrow.Author.Tests.{ltb-false, leb-false}
 use Rattle.octets.proofs.BoolLaws.{or_false}
 use Rattle.refusals.specs.Refusals.{◌or_else◌, refuse, if_taken}
-use Rattle.refusals.proofs.RefusalLaws.{or_else_zero, or_else_take, or_else_pass, refuse_zero, if_taken_lem, if_refused, by_first, by_taken, if_same}
+use Rattle.refusals.proofs.RefusalLaws.{or_else_zero, refuse_zero, if_taken_lem, if_refused, by_first, by_taken, if_same}
 use Rattle.frame.specs.Orders.{taken_refusal}
 use Rattle.frame.proofs.FrameLaws.{taken_short}
 use Rattle.ring.specs.Ring.{place_after, turned, laid, sum}
-use Rattle.ring.proofs.RingLaws.{turned_length, place_within, laid_after, laid_length}
+use Rattle.ring.proofs.RingLaws.{turned_length, laid_after, laid_length}
 use Rattle.ring.proofs.SumLaws.{sum_append}
 use Rattle.ring.proofs.SlotLaws.{used_more}
 use Rattle.totals.specs.Totals.{gives, total, raised}
-use Rattle.totals.specs.Parts.{droppable}
 use Rattle.totals.proofs.TotalsLaws.{gives_most, none_overfull}
 use Rattle.room.specs.Plain.{Kept, kept, entered}
 use Rattle.room.specs.Waiting.{cut, lengths_of, clocks_of, waiting, refusal14, Lets, Covered}
 use Rattle.room.specs.Rules.{enter_refusal, with_frame, enter_queue, enter_store}
-use Rattle.room.specs.Parts.{Judged, entry_by, spot_by, store_by}
+use Rattle.std.specs.Prelude.{Ok}
+use Rattle.room.specs.Parts.{Judged, entry_by, store_by}
 use Rattle.room.specs.declared.Queue.{Queue}
-use Rattle.room.specs.declared.Held.{Held}
-use Rattle.room.specs.declared.Spot.{Spot}
 use Rattle.room.proofs.CutLaws.{cut_more, cut_snoc}
 use Rattle.room.proofs.InsideLaws.{Inside, inside, let_by, as_many, waiting_count, waiting_together}
 use Rattle.room.proofs.GivesLaws.{gives_all_most}
@@ -152,64 +150,9 @@ module _ (s : List ℕ) (q : Queue) (f : List ℕ) (ll : length q.lengths ≡ 32
         }))
         (λ h. rw (unstored h, without_it h) l)
 
--- the order as the code judges it: each number where it stands
-module _ (n : ℕ) (q : Queue) (f : List ℕ) (k : Held) (j : Judged n q k) where
-  pub at_14 : (k.refusal ≡ 0 → ⊥) → k.refusal ≡ entry_by n q f
-  unfolding entry_by
-  at_14 h = or_else_take _ _ k.refusal j.number h
-
-  pub at_checks : (b : ℕ) → k.refusal ≡ 0 → b ≡ taken_refusal f → (b ≡ 0 → ⊥) → b ≡ entry_by n q f
-  unfolding entry_by
-  at_checks b z e h = or_else_pass _ _ k.refusal b j.number z (or_else_take _ _ b e h)
-
-  pub at_room : (b r : ℕ) → k.refusal ≡ 0 → b ≡ taken_refusal f → b ≡ 0 → r ≡ refuse (leb 32 q.count || ltb n (k.used + length f)) 25 → r ≡ entry_by n q f
-  unfolding entry_by
-  at_room b r z e zb er =
-      or_else_pass _ _ k.refusal r j.number z
-      (or_else_pass _ _ b r e zb (er ∙ ap (λ (u : ℕ). refuse (leb 32 q.count || ltb n (u + length f)) 25) (j.used z)))
-
-spot : {a b c x y z : ℕ} → a ≡ x → b ≡ y → c ≡ z → ◌≡◌ {A = Spot} (record { refusal = a; slot = b; blocks = c }) (record { refusal = x; slot = y; blocks = z })
-spot e f g = cc
-
-module _ (s : List ℕ) (q : Queue) (f : List ℕ) (r : ℕ) (e : r ≡ entry_by (length s) q f) where
-  pub spot_refused : (r ≡ 0 → ⊥) → (record { refusal = r; slot = 0; blocks = 0 } ≡ spot_by (length s) q f) × (s ≡ store_by s q f)
-  unfolding spot_by store_by
-  spot_refused h =
-      let n : entry_by (length s) q f ≡ 0 → ⊥ = λ z. h (e ∙ z) in
-      (spot e (sym (if_refused (entry_by (length s) q f) _ 0 n)) (sym (if_refused (entry_by (length s) q f) _ 0 n)), sym (if_refused (entry_by (length s) q f) _ s n))
-
-  pub spot_done : (slot blocks u : ℕ) (t : List ℕ) → r ≡ 0 → slot ≡ place_after q.first q.count 32 → blocks ≡ droppable f → u ≡ sum (lengths_of q)
-      → t ≡ laid (place_after q.head u (length s)) f s
-      → (record { refusal = 0; slot = slot; blocks = blocks } ≡ spot_by (length s) q f) × (t ≡ store_by s q f)
-  unfolding spot_by store_by
-  spot_done slot blocks u t z es eb eu et =
-      let n : entry_by (length s) q f ≡ 0 = sym e ∙ z in (
-        spot (sym n) (es ∙ sym (if_taken_lem (entry_by (length s) q f) _ 0 n)) (eb ∙ sym (if_taken_lem (entry_by (length s) q f) _ 0 n)),
-        et ∙ ap (λ (k : ℕ). laid (place_after q.head k (length s)) f s) eu ∙ sym (if_taken_lem (entry_by (length s) q f) _ s n),
-      )
-
--- and what the code has in hand once nothing is refused
-pub record Ready (n : ℕ) (q : Queue) (f : List ℕ) (u : ℕ) : Type 0 where
-  pub store : n ≤ 16384
-  pub short : length f ≤ 138
-  pub fits : length f ≤ n
-  pub few : q.count < 32
-  pub slot : q.first < 32
-  pub place : q.head ≤ n
-  pub used : u ≤ n
-  pub behind : place_after q.head u n ≤ n
-
-pub ready : (n : ℕ) (q : Queue) (f : List ℕ) (r u : ℕ) → r ≡ entry_by n q f → r ≡ 0 → u ≡ sum (lengths_of q) → Ready n q f u
-ready n q f r u e z eu =
-    let y = roomy n q f (sym e ∙ z) in
-    let lu : u ≤ n = omega (arith, y.inside.all) in
-    record {
-      store = y.inside.store;
-      short = y.short;
-      fits = omega (arith, y.room);
-      few = y.few;
-      slot = y.inside.slot;
-      place = y.inside.place;
-      used = lu;
-      behind = place_within q.head u n y.inside.place lu;
-    }
+-- as the code has let it in
+pub let_in_by : (n : ℕ) (q : Queue) (f : List ℕ) (u : ℕ) → Judged n q (Ok u) → 0 ≡ taken_refusal f → 0 ≡ refuse (leb 32 q.count || ltb n (u + length f)) 25 → Roomy n q f
+let_in_by n q f u j t r =
+    let p = or_false _ _ (refuse_zero _ 24 (sym r)) in
+    let room : u + length f ≤ n = ltb-false _ _ p.1 in
+    record { inside = inside n q (sym j.0); short = taken_short f (sym t); few = leb-false _ _ p.0; room = omega (arith, j.1, room) }

@@ -1,6 +1,6 @@
 -- What is known of a record that 14 lets by, both ways, and of what waits in it.
 use Prim.Native.Nat.{ℕ, ◌≤◌, ◌<◌}
-use mathlib.Core.Path.{◌≡◌, sym, ap, ◌∙◌}
+use mathlib.Core.Path.{◌≡◌, refl, sym, ◌∙◌}
 use mathlib.Core.Bool.{Bool, true, false, ◌||◌}
 use mathlib.Core.List.{List}
 use native.Mathlib.Omega.{arith}
@@ -8,7 +8,7 @@ use lib.Dec.{ltb}
 use lib.ListN.{length}
 use borrow.Author.Tests.{ltb-false, le-ltb}
 use Rattle.octets.proofs.BoolLaws.{or_false}
-use Rattle.refusals.specs.Refusals.{refuse}
+use Rattle.refusals.specs.Refusals.{◌or_else◌, refuse}
 use Rattle.refusals.proofs.RefusalLaws.{refuse_zero}
 use Rattle.ring.specs.Ring.{turned, sum}
 use Rattle.ring.proofs.RingLaws.{turned_length}
@@ -16,7 +16,6 @@ use Rattle.ring.proofs.SlotLaws.{used_count}
 use Rattle.totals.specs.Totals.{any_above}
 use Rattle.room.specs.Plain.{together}
 use Rattle.room.specs.Waiting.{lengths_of, clocks_of, waiting, misplaced, overfull, outside, refusal14}
-use Rattle.room.specs.Parts.{Judged}
 use Rattle.room.specs.declared.Queue.{Queue}
 use Rattle.room.proofs.CutLaws.{cut_together, cut_count}
 
@@ -65,26 +64,10 @@ module _ (s : List ℕ) (q : Queue) (ll : length q.lengths ≡ 32) (lc : length 
   unfolding waiting
   waiting_together = cut_together (turned q.head s) (lengths_of q) (clocks_of q) as_many (omega (arith, i.all, turned_length q.head s))
 
--- 14 by the tests of the code: all but the lengths, and then these
-module _ (n : ℕ) (q : Queue) (wrong : Bool) (e : wrong ≡ (misplaced n q || overfull q)) where
-  pub judged_amiss : wrong ≡ true → Judged n q (record { refusal = 14; used = 0 })
-  unfolding outside
-  judged_amiss h =
-      record { number = ap (λ (b : Bool). refuse (b || ltb n (sum (lengths_of q))) 14) (sym (sym e ∙ h)); used = λ z. absurd (omega (arith, z)) }
-
-  pub judged_right : wrong ≡ false → (u r : ℕ) → u ≡ sum (lengths_of q) → r ≡ refuse (ltb n u) 14 → Judged n q (record { refusal = r; used = u })
-  unfolding outside
-  judged_right h u r eu er =
-      record {
-        number = er ∙ ap (λ (k : ℕ). refuse (ltb n k) 14) eu ∙ ap (λ (b : Bool). refuse (b || ltb n (sum (lengths_of q))) 14) (sym (sym e ∙ h));
-        used = λ _. eu;
-      }
-
-  pub placed : wrong ≡ false → (q.first < 32) × (q.count ≤ 32)
-  placed h =
-      let m = (or_false (misplaced n q) (overfull q) (sym e ∙ h)).0 in
-      let t = (or_false (ltb 16384 n || ltb 32 q.count || ltb 31 q.first) (ltb n q.head) m).0 in
-      let u = or_false (ltb 16384 n || ltb 32 q.count) (ltb 31 q.first) t in
-      let few : q.count ≤ 32 = ltb-false 32 q.count (or_false (ltb 16384 n) (ltb 32 q.count) u.0).1 in
-      let slot : q.first ≤ 31 = ltb-false 31 q.first u.1 in
-      (omega arith, few)
+-- 14 is judged in two steps: all but the lengths, and then these
+pub outside_14 : (n : ℕ) (q : Queue) → refuse (outside n q) 14 ≡ (refuse (misplaced n q || overfull q) 14 or_else refuse (ltb n (sum (lengths_of q))) 14)
+unfolding outside
+outside_14 n q = go (misplaced n q || overfull q) where
+  go : (b : Bool) → refuse (b || ltb n (sum (lengths_of q))) 14 ≡ (refuse b 14 or_else refuse (ltb n (sum (lengths_of q))) 14)
+  go true = refl
+  go false = refl

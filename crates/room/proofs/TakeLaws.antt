@@ -6,10 +6,12 @@ use native.Mathlib.Omega.{arith}
 use lib.Dec.{eqb}
 use lib.ListN.{length, take, drop, get_or, length-drop}
 use borrow.Author.Tests.{eqb-false}
-use Rattle.refusals.specs.Refusals.{◌or_else◌, refuse, if_taken}
-use Rattle.refusals.proofs.RefusalLaws.{or_else_zero, refuse_zero, if_taken_lem, if_refused, by_first, by_taken}
+use Rattle.std.specs.Prelude.{Result, Ok, Err}
+use Rattle.refusals.specs.Refusals.{◌or_else◌, refuse, if_taken, number}
+use Rattle.refusals.specs.declared.Refusal.{Refusal}
+use Rattle.refusals.proofs.RefusalLaws.{number_positive, number_stands, number_refuses, or_else_zero, refuse_zero, if_taken_lem, if_refused, by_first, by_taken}
 use Rattle.onward.specs.Onward.{wait_of}
-use Rattle.onward.specs.declared.Sent.{Sent}
+use Rattle.onward.specs.Sent.{Sent}
 use Rattle.node.specs.Node.{forward_answer, forward_buffer}
 use Rattle.ring.specs.Ring.{place_after, turned, sum}
 use Rattle.ring.proofs.RingLaws.{turned_length, turned_straight, turned_after, place_within, place_below}
@@ -18,29 +20,21 @@ use Rattle.totals.specs.Totals.{gives, total, lowered}
 use Rattle.totals.specs.Parts.{droppable}
 use Rattle.totals.proofs.TotalsLaws.{droppable_few, lowered_none, none_overfull, total_most}
 use Rattle.room.specs.Plain.{Kept, kept, first_of, first_answer, first_buffer, left}
-use Rattle.room.specs.Waiting.{cut, lengths_of, clocks_of, waiting, outside, refusal14, Lets}
+use Rattle.room.specs.Waiting.{cut, lengths_of, clocks_of, waiting, refusal14, Lets}
 use Rattle.room.specs.Rules.{none_to_take, take_sent, take_buffer, without_first, take_queue}
-use Rattle.room.specs.Parts.{queue_with, bare, octets_from, sent_of, stayed, step_of}
+use Rattle.room.specs.Parts.{octets_from, sent_of, Counts, step_of, step_paper}
 use Rattle.room.specs.declared.Queue.{Queue}
 use Rattle.room.specs.declared.Gone.{Gone}
-use Rattle.room.specs.declared.Step.{Step}
 use Rattle.room.proofs.CutLaws.{cut_more}
 use Rattle.room.proofs.InsideLaws.{Inside, inside, let_by, waiting_count}
 
--- the part of the store that is lent to the node: straight, and put together
-pub straight : (at n : ℕ) (s : List ℕ) → at ≤ length s → n ≤ length s - at → take (at + n - at) (drop at s) ≡ octets_from at n s
-straight at n s la ln = let k : at + n - at ≡ n = omega arith in rw k (sym (turned_straight at n s la ln))
-
-pub put_together : (at n : ℕ) (s whole : List ℕ) → take n whole ≡ octets_from at n s → take (n - 0) whole ≡ octets_from at n s
-put_together at n s whole e = let k : n - 0 ≡ n = omega arith in rw k e
-
--- what became of the part became of the frame
+-- what became of a frame
 module _ (level wait addr : ℕ) (out : List ℕ) where
-  abbrev pub Went : List ℕ → Gone → List ℕ → Type 0
-  Went f gone b = ((sent_of gone ≡ forward_answer level wait addr f out) × (gone.blocks ≡ droppable f)) × (b ≡ forward_buffer level wait addr f out)
+  abbrev pub Went : List ℕ → Result Gone Refusal → List ℕ → Type 0
+  Went f gone b = ((sent_of gone ≡ forward_answer level wait addr f out) × Counts f gone) × (b ≡ forward_buffer level wait addr f out)
 
-  pub went_alike : (x y b : List ℕ) (gone : Gone) → x ≡ y → Went x gone b → Went y gone b
-  went_alike x y b gone e h = rw e at h
+pub no_zero : (r : Refusal) → number r ≡ 0 → ⊥
+no_zero r z = let p = number_positive r in omega (arith, z, p)
 
 -- 14 and 26 by the record's numbers
 abbrev pub none_by : ℕ → Queue → ℕ
@@ -52,11 +46,12 @@ some_wait n q z = let p = or_else_zero _ _ z in (inside n q p.0, above q.count (
   above zero d = absurd (d refl)
   above (suc k) d = omega arith
 
--- 14 does not look at the readings
-pub none_by_lem : (n head first count : ℕ) (ls cs ts : List ℕ) (r k e : ℕ) → k ≡ refusal14 n (bare head first count ls ts) → e ≡ refuse (eqb count 0) 26 → r ≡ k or_else e
-    → r ≡ none_by n (queue_with head first count ls cs ts)
-unfolding outside
-none_by_lem n head first count ls cs ts r k e ek ee er = er ∙ ap₂ ◌or_else◌ ek ee
+-- each of the two as the code finds it
+pub at_14 : (n : ℕ) (q : Queue) (r : Refusal) → number r ≡ refusal14 n q → number r ≡ none_by n q
+at_14 n q r e = sym (number_stands r _) ∙ ap (λ (k : ℕ). k or_else refuse (eqb q.count 0) 26) e
+
+pub at_26 : (n : ℕ) (q : Queue) (k : ℕ) → 0 ≡ refusal14 n q → k ≡ refuse (eqb q.count 0) 26 → k ≡ none_by n q
+at_26 n q k e d = d ∙ ap (λ (j : ℕ). j or_else refuse (eqb q.count 0) 26) e
 
 -- the first frame's length and reading
 abbrev pub length_of : Queue → ℕ
@@ -172,41 +167,33 @@ module _ (s : List ℕ) (q : Queue) (ll : length q.lengths ≡ 32) (lc : length 
         }) (sym e)
 
     -- each way that the code goes
-    pub step_none : (r : ℕ) → r ≡ none_by (length s) q → (r ≡ 0 → ⊥) → (x : Step) → x ≡ stayed r 0 q.head q.first q.count
-        → (x ≡ step_of s q to level addr out) × (out ≡ take_buffer s q to level addr out)
-    step_none r e h x ex =
-        let w = none_sent (λ z. h (e ∙ z)) in (
-          ex ∙ stepped (record { refusal = r; length = 0 }) q 0 (w.0 ∙ ap (λ (x : ℕ). record { refusal = x; length = 0 }) (sym e)) (if_refused r (without_first s q) q h) (if_refused r _ 0 h),
+    pub step_none : (r : Refusal) → number r ≡ none_by (length s) q → (step_paper q (Err r) ≡ step_of s q to level addr out) × (out ≡ take_buffer s q to level addr out)
+    unfolding step_paper
+    step_none r e =
+        let w = none_sent (λ z. no_zero r (e ∙ z)) in (
+          stepped (record { refusal = number r; length = 0 }) q 0 (w.0 ∙ ap (λ (x : ℕ). record { refusal = x; length = 0 }) (sym e)) (number_refuses r (without_first s q) q) (number_refuses r _ 0),
           sym w.1,
         )
 
-    module _ (gone : Gone) (after : List ℕ) (z : none_by (length s) q ≡ 0)
-        (went : Went level (wait_of (reading_of q) to) addr out (octets_from q.head (length_of q) s) gone after) where
-      pub step_refused : (gone.refusal ≡ 0 → ⊥) → (x : Step) → x ≡ stayed gone.refusal gone.length q.head q.first q.count
-          → (x ≡ step_of s q to level addr out) × (after ≡ take_buffer s q to level addr out)
-      step_refused h x ex = (
-        ex ∙ stepped (sent_of gone) q 0 ((sent_is z).0 ∙ sym went.0.0) (if_refused gone.refusal (without_first s q) q h) (if_refused gone.refusal _ 0 h),
+    module _ (z : none_by (length s) q ≡ 0) (after : List ℕ) where
+      pub step_refused : (r : Refusal) → Went level (wait_of (reading_of q) to) addr out (octets_from q.head (length_of q) s) (Err r) after
+          → (step_paper q (Err r) ≡ step_of s q to level addr out) × (after ≡ take_buffer s q to level addr out)
+      unfolding step_paper
+      step_refused r went = (
+        stepped (sent_of (Err r)) q 0 ((sent_is z).0 ∙ sym went.0.0) (number_refuses r (without_first s q) q) (number_refuses r _ 0),
         went.1 ∙ sym (sent_is z).1,
       )
 
-      pub step_done : gone.refusal ≡ 0 → (head first count : ℕ) → head ≡ place_after q.head (length_of q) (length s) → first ≡ place_after q.first 1 32 → count ≡ q.count - 1
-          → (record { refusal = gone.refusal; length = gone.length; head = head; first = first; count = count; blocks = gone.blocks } ≡ step_of s q to level addr out)
+      pub step_done : (gone : Gone) → Went level (wait_of (reading_of q) to) addr out (octets_from q.head (length_of q) s) (Ok gone) after
+          → (head first : ℕ) → head ≡ place_after q.head (length_of q) (length s) → first ≡ place_after q.first 1 32
+          → (step_paper q (Ok (record { length = gone.length; head = head; first = first; count = q.count - 1; blocks = gone.blocks })) ≡ step_of s q to level addr out)
           × (after ≡ take_buffer s q to level addr out)
-      unfolding without_first
-      step_done zs head first count eh ef ec =
+      unfolding step_paper without_first
+      step_done gone went head first eh ef =
           let w = some_wait (length s) q z in
           let same : droppable (first_of (waiting s q)).octets ≡ gone.blocks = ap (λ (x : List Kept). droppable (first_of x).octets) (first_waits w.0 w.1) ∙ sym went.0.1 in (
-            ap₂ (λ (h k : ℕ). record { refusal = gone.refusal; length = gone.length; head = h; first = k; count = count; blocks = gone.blocks }) eh ef
-                ∙ ap (λ (k : ℕ). record {
-                  refusal = gone.refusal;
-                  length = gone.length;
-                  head = place_after q.head (length_of q) (length s);
-                  first = place_after q.first 1 32;
-                  count = k;
-                  blocks = gone.blocks;
-                }) ec
-                ∙ stepped (sent_of gone) (without_first s q) gone.blocks ((sent_is z).0 ∙ sym went.0.0) (if_taken_lem gone.refusal (without_first s q) q zs)
-                (if_taken_lem gone.refusal _ 0 zs ∙ same),
+            ap₂ (λ (h k : ℕ). record { refusal = 0; length = gone.length; head = h; first = k; count = q.count - 1; blocks = gone.blocks }) eh ef
+                ∙ stepped (sent_of (Ok gone)) (without_first s q) gone.blocks ((sent_is z).0 ∙ sym went.0.0) refl same,
             went.1 ∙ sym (sent_is z).1,
           )
 

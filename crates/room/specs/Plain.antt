@@ -3,7 +3,7 @@ use Rattle.std.specs.Prelude.{ℕ, ◌+◌, ◌||◌, List, [], ◌∷◌, ◌++
 use Rattle.refusals.specs.Refusals.{◌or_else◌, refuse, if_taken}
 use Rattle.frame.specs.Orders.{taken_refusal}
 use Rattle.onward.specs.Onward.{wait_of}
-use Rattle.onward.specs.declared.Sent.{Sent}
+use Rattle.onward.specs.Sent.{Sent}
 use Rattle.node.specs.Node.{forward_answer, forward_buffer}
 use Rattle.totals.specs.Totals.{gives}
 

@@ -1,13 +1,13 @@
 -- Requests A6 and A7: what is refused on entry, on taking and to a question, and what each leaves in store, record and buffer.
-use Rattle.std.specs.Prelude.{ℕ, ◌+◌, ◌-◌, List, length, get_or, set}
-use Rattle.refusals.specs.Refusals.{◌or_else◌, if_taken, refusal10}
-use Rattle.onward.specs.declared.Sent.{Sent}
+use Rattle.std.specs.Prelude.{ℕ, ◌+◌, ◌-◌, List, length, get_or, set, Result, Ok, Err}
+use Rattle.refusals.specs.Refusals.{◌or_else◌, if_taken, refusal10, number}
+use Rattle.refusals.specs.declared.Refusal.{Refusal}
+use Rattle.onward.specs.Sent.{Sent}
 use Rattle.ring.specs.Ring.{place_after, laid}
 use Rattle.totals.specs.Totals.{total, raised, lowered}
 use Rattle.room.specs.Plain.{together, enter_order, refusal26, first_of, sent_past, buffer_past}
 use Rattle.room.specs.Waiting.{waiting, refusal14}
 use Rattle.room.specs.declared.Queue.{Queue}
-use Rattle.room.specs.declared.GivenBack.{GivenBack}
 
 -- on entry: 14, then the plain list's order
 unfoldable pub enter_refusal : List ℕ → Queue → List ℕ → ℕ
@@ -59,7 +59,16 @@ take_queue s q to level addr out = if_taken (take_sent s q to level addr out).re
 abbrev pub freed_refusal : Queue → ℕ → ℕ
 freed_refusal q level = refusal14 16384 q or_else refusal10 level
 
--- the total of the level
+-- the number, and the total of the level
+pub record GivenBack : Type 0 where
+  pub refusal : ℕ
+  pub octets : ℕ
+
 unfoldable pub freed_answer : Queue → ℕ → GivenBack
 freed_answer q level =
     if_taken (freed_refusal q level) (record { refusal = 0; octets = total q.totals level }) (record { refusal = freed_refusal q level; octets = 0 })
+
+-- the paper's number and value for each case
+unfoldable pub freed_paper : Result ℕ Refusal → GivenBack
+freed_paper (Ok n) = record { refusal = 0; octets = n }
+freed_paper (Err r) = record { refusal = number r; octets = 0 }

@@ -1,27 +1,36 @@
-use Rattle.queue.proofs.AnswerLaws.{taken_blocks, taken_by}
+use Rattle.std.proofs.Common.{◌≡◌, length, arith}
+use Rattle.std.proofs.lemmas.Result.{err_from_is_err_and}
+use Rattle.room.specs.Parts.{step_paper}
+use Rattle.queue.specs.Calls.{taken_paper}
+use Rattle.queue.proofs.AnswerLaws.{totals_are_3, taken_blocks, taken_by, taken_none}
 use Rattle.queue.proofs.take.Goals as goal
 
-pub take_by-step-requires : goal.take_by-step-requires
-take_by-step-requires c =
-    (c.widened-wide.ensures.1, c.readings-read.ensures.1, c.three-totals.ensures.1)
+pub returns-in_err-step : goal.returns-in_err-step
+unfolding step_paper taken_paper
+returns-in_err-step c =
+    let a = c.args in
+    let w = c.numbers in
+    let v = c.in_err-step in
+    let clocks : length a.q.clocks ≡ 32 = omega arith in
+    let all = taken_none a.store.now a.q a.to a.level a.address a.out.now w.result w.ensures clocks _ v.ensures.step _ v.ensures.buffer in
+    let p = err_from_is_err_and c.from_residual.result c.from_residual.ensures.1 in
+    record { answer = rw (p.1, p.2) all.0; buffer = all.1.0; waits = rw (p.1, p.2) all.1.1 }
 
 pub lower-requires : goal.lower-requires
+unfolding step_paper
 lower-requires c =
     let a = c.args in
-    let w = c.widened-wide in
-    let r = c.readings-read in
-    let h = c.three-totals in
-    let v = c.take_by-step in
-    (h.ensures.1, taken_blocks a.store.now a.q a.to a.level a.address a.out.now w.result r.result h.result w.ensures.0 w.ensures.1.all r.ensures.0 r.ensures.1 h.ensures.0 h.ensures.1 v.result v.ensures.step)
+    let w = c.numbers in
+    let v = c.in_ok-step in
+    let clocks : length a.q.clocks ≡ 32 = omega arith in
+    (totals_are_3 a.q w.result w.ensures, taken_blocks a.store.now a.q a.to a.level a.address a.out.now w.result w.ensures clocks _ v.ensures.step)
 
 pub returns : goal.returns
+unfolding step_paper taken_paper
 returns c =
     let a = c.args in
-    let w = c.widened-wide in
-    let r = c.readings-read in
-    let h = c.three-totals in
-    let v = c.take_by-step in
-    let all =
-    taken_by a.store.now a.q a.to a.level a.address a.out.now w.result r.result h.result w.ensures.0 w.ensures.1.all r.ensures.0 r.ensures.1 h.ensures.0 h.ensures.1 v.result v.ensures.step
-    _ v.ensures.buffer c.lower.new.totals c.lower.ensures in
+    let w = c.numbers in
+    let v = c.in_ok-step in
+    let clocks : length a.q.clocks ≡ 32 = omega arith in
+    let all = taken_by a.store.now a.q a.to a.level a.address a.out.now w.result w.ensures clocks _ v.ensures.step _ v.ensures.buffer c.lower.new.totals c.lower.ensures in
     record { answer = all.0; buffer = all.1.0; waits = all.1.1 }
