@@ -1,8 +1,7 @@
 -- G.764, section 5.2, and document 01, "Origin and node" and "Order": what a node refuses, answers and leaves in its buffer, by the passes.
 use Rattle.std.specs.Prelude.{ℕ, cond, List, ltb, length}
 use Rattle.refusals.specs.Refusals.{◌or_else◌, address_bad}
-use Rattle.onward.specs.Sent.{sent_answer, sent_buffer}
-use Rattle.onward.specs.declared.Sent.{Sent}
+use Rattle.onward.specs.Sent.{Sent, sent_answer, sent_buffer}
 use Rattle.plain_order.specs.Order.{taken_order}
 use Rattle.plain_passes.specs.Passes.{drop_pass, passed}
 

@@ -3,7 +3,7 @@ use Rattle.std.specs.Prelude.{ℕ, ◌-◌, List, drop, replicate}
 use Rattle.refusals.specs.Refusals.{if_taken}
 use Rattle.coding.specs.Coding.{sample_bits}
 use Rattle.frame.specs.Fields.{field_m, field_c, coding}
-use Rattle.endpoint.specs.declared.Heard.{Heard}
+use Rattle.endpoint.specs.Read.{Heard}
 use Rattle.plain_blocks.specs.Figure7.{read_words}
 use Rattle.plain_order.specs.Order.{read_order}
 

@@ -1,8 +1,7 @@
 -- G.764, section 5.1, and document 01, "Origin and node" and "Order": what the origin answers and leaves; the frame that it makes goes through the node's passes.
 use Rattle.std.specs.Prelude.{ℕ, List, length}
 use Rattle.refusals.specs.Refusals.{if_taken}
-use Rattle.onward.specs.Sent.{sent_answer, sent_buffer}
-use Rattle.onward.specs.declared.Sent.{Sent}
+use Rattle.onward.specs.Sent.{Sent, sent_answer, sent_buffer}
 use Rattle.origin.specs.Burst.{sequence_sent, more_sent, sseq_set}
 use Rattle.origin.specs.declared.Step.{Step}
 use Rattle.plain_packet.specs.Packet.{plain_made, send_order}

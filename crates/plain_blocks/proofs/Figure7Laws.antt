@@ -7,7 +7,7 @@ use native.Mathlib.Numerals.{add-one}
 use native.Mathlib.Omega.{arith}
 use lib.ListN.{length, get_or, length-append}
 use Rattle.octets.specs.Octets.{tab}
-use Rattle.octets.proofs.TabLaws.{length_tab}
+use Rattle.octets.proofs.TabLaws.{length_tab, tab_ext}
 use Rattle.plain_check.specs.Bits.{bit, number}
 use Rattle.plain_check.proofs.BitLaws.{binary_tab, number_below}
 use Rattle.plain_blocks.specs.Figure7.{nth, picked_octet, picked_block, picked_blocks, read_bit, from_highest, read_word}
@@ -70,3 +70,6 @@ bit_at v i b = ap₂ (λ (k n : ℕ). bit (1 + k % 8) (get_or v n 0)) (omega ari
 
 pub picked_at : (S : ℕ) (xs : List ℕ) (b j k : ℕ) → bit (S - b) (get_or xs (8 * j + k) 0) ≡ picked_bit S xs b j k
 picked_at S xs b j k = ap (λ (n : ℕ). bit (S - b) (get_or xs n 0)) (omega arith)
+
+pub octet_bits : (S : ℕ) (xs : List ℕ) (b j : ℕ) → tab (λ k. bit (S - b) (get_or xs (8 * j + k) 0)) 8 ≡ tab (picked_bit S xs b j) 8
+octet_bits S xs b j = tab_ext _ _ 8 (λ k h. picked_at S xs b j k)

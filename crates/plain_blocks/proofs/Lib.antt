@@ -1,1 +1,2 @@
 pub mod Figure7Laws
+pub mod MadeLaws

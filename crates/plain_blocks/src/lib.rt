@@ -7,18 +7,14 @@ ghost use Rattle.plain_blocks.specs.Figure7.{picked_octet, picked_block, picked_
 
 use octets::at;
 use plain_check::{bit, octet_of};
+use std::array;
 
 // Octet j + 1 of block b: bit S - b of eight samples. Here and below the callers meet the requires.
 fn pick_octet(samples: &[u8], s: usize, b: usize, j: usize) -> u8
     requires { (b < s) × (s ≤ 8) × (j < 16) }
     ensures { result ≡ picked_octet s samples.now b (j + 1) }
 {
-    let mut bits = [0u8; 8];
-    let mut k: usize = 0;
-    while k < 8 {
-        bits[k] = bit(s - b, at(samples, 8 * j + k));
-        k += 1;
-    }
+    let bits: [u8; 8] = array::from_fn(|k| bit(s - b, at(samples, 8 * j + k)));
     octet_of(&bits)
 }
 
@@ -26,10 +22,8 @@ fn pick_block(samples: &[u8], s: usize, b: usize, block: &mut [u8])
     requires { (b < s) × (s ≤ 8) × (16 ≤ length block.old) }
     ensures { block.new ≡ picked_block s samples.now b ++ drop 16 block.old }
 {
-    let mut j: usize = 0;
-    while j < 16 {
-        block[j] = pick_octet(samples, s, b, j);
-        j += 1;
+    for (j, octet) in block[..16].iter_mut().enumerate() {
+        *octet = pick_octet(samples, s, b, j);
     }
 }
 
@@ -38,10 +32,8 @@ pub fn pick_blocks(samples: &[u8], s: usize, voice: &mut [u8])
     requires { (s ≤ 8) × (16 * s ≤ length voice.old) }
     ensures { voice.new ≡ picked_blocks s samples.now s ++ drop (16 * s) voice.old }
 {
-    let mut b: usize = 0;
-    while b < s {
+    for b in 0..s {
         pick_block(samples, s, b, &mut voice[16 * b..]);
-        b += 1;
     }
 }
 
@@ -59,10 +51,8 @@ fn read_word(voice: &[u8], width: usize, i: usize) -> u8
     ensures { result ≡ read_word voice.now width (i + 1) }
 {
     let mut word: u8 = 0;
-    let mut b: usize = 0;
-    while b < width {
+    for b in 0..width {
         word = 2 * word + read_bit(voice, i, b);
-        b += 1;
     }
     word
 }
@@ -72,11 +62,5 @@ pub fn read_words(voice: &[u8], width: usize) -> [u8; 128]
     requires { width ≤ 8 }
     ensures { result ≡ read_words voice.now width }
 {
-    let mut words = [0u8; 128];
-    let mut i: usize = 0;
-    while i < 128 {
-        words[i] = read_word(voice, width, i);
-        i += 1;
-    }
-    words
+    array::from_fn(|i| read_word(voice, width, i))
 }

@@ -1,11 +1,11 @@
 -- Zeros and ones, and the number that they make.
-use Prim.Native.Nat.{ℕ, zero, suc, ◌+◌, ◌*◌, ◌^◌, ◌<◌, ◌≤◌}
+use Prim.Native.Nat.{ℕ, zero, suc, ◌^◌, ◌<◌, ◌≤◌}
 use mathlib.Core.Path.{◌≡◌, refl, ap, ◌∙◌}
 use mathlib.Core.List.{List, [], ◌∷◌, ◌++◌}
 use native.Mathlib.Nat.{pow-suc}
 use native.Mathlib.Omega.{arith}
-use lib.ListN.{length, get_or, take, drop, length-drop}
-use lib.Seq.{drop-cons, length-take-le}
+use lib.ListN.{length, take, drop, length-drop}
+use lib.Seq.{length-take-le}
 use Rattle.octets.specs.Octets.{tab}
 use Rattle.plain_check.specs.Bits.{number}
 use Rattle.plain_check.specs.Check.{added}
@@ -52,16 +52,11 @@ unfolding number
 number_below [] p = omega arith
 number_below (b ∷ l) p = omega (arith, p.0, number_below l p.1, pow-suc 2 (length l))
 
--- the number from place i on
-pub number_next : (l : List ℕ) (i : ℕ) → i < length l → number (drop i l) ≡ get_or l i 0 + 2 * number (drop (suc i) l)
+-- the last of the bits make no more than all
+pub number_last : (front l : List ℕ) → number l ≤ number (front ++ l)
 unfolding number
-number_next l i h = ap number (drop-cons l i 0 h)
-
-pub number_rest : (i : ℕ) (l : List ℕ) → number (drop i l) ≤ number l
-unfolding number
-number_rest zero l = omega arith
-number_rest (suc i) [] = omega arith
-number_rest (suc i) (b ∷ l) = omega (arith, number_rest i l)
+number_last [] l = omega arith
+number_last (b ∷ front) l = omega (arith, number_last front l)
 
 -- sixteen bits to which sixteen were added, as two octets
 pub two_below : (a l : List ℕ) → length a ≡ 16 → length l ≡ 16 → let s = added a l in (length s ≡ 16) × (number (take 8 s) < 256) × (number (drop 8 s) < 256)

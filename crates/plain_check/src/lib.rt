@@ -5,7 +5,7 @@ ghost use Rattle.std.specs.Prelude.{◌≡◌, [], ◌∷◌, ◌++◌, ◌+◌,
 ghost use Rattle.plain_check.specs.Bits.{bit, number};
 ghost use Rattle.plain_check.specs.Check.{message_bits, added, complemented, reduced, remainder, check_octets};
 
-use octets::{at, wide};
+use octets::at;
 
 // Bit k of x; bit 1 is the lowest. Here and below the callers meet the requires.
 pub fn bit(k: usize, x: usize) -> u8
@@ -21,10 +21,8 @@ pub fn octet_of(bits: &[u8]) -> u8
     ensures { result ≡ number bits.now }
 {
     let mut octet: u8 = 0;
-    let mut k: usize = 8;
-    while 0 < k {
-        k -= 1;
-        octet = bits[k] + 2 * octet;
+    for bit in bits.iter().rev() {
+        octet = *bit + 2 * octet;
     }
     octet
 }
@@ -34,24 +32,18 @@ pub fn lay_out(message: &[u8], bits: &mut [u8])
     requires { length bits.old ≡ 8 * length message.now + 16 }
     ensures { bits.new ≡ message_bits message.now ++ replicate 16 0 }
 {
-    let n = bits.len();
-    let mut i: usize = 0;
-    while i < n {
-        bits[i] = bit(i % 8 + 1, at(message, i / 8));
-        i += 1;
+    for (i, place) in bits.iter_mut().enumerate() {
+        *place = bit(i % 8 + 1, at(message, i / 8));
     }
 }
 
-// The upper polynomial is added to the one that stands under it.
+// The upper polynomial is added to the one that stands under it, place by place: the proof knows nothing of what `bits.iter_mut().zip(upper)` writes.
 fn add(upper: &[u8], bits: &mut [u8])
     requires { length upper.now ≤ length bits.old }
     ensures { bits.new ≡ added upper.now bits.old }
 {
-    let n = upper.len();
-    let mut i: usize = 0;
-    while i < n {
-        bits[i] = ((wide(upper[i]) + wide(bits[i])) % 2) as u8;
-        i += 1;
+    for (i, x) in upper.iter().enumerate() {
+        bits[i] = ((u16::from(*x) + u16::from(bits[i])) % 2) as u8;
     }
 }
 
@@ -59,8 +51,7 @@ pub fn complement(bits: &mut [u8])
     requires { 16 ≤ length bits.old }
     ensures { bits.new ≡ complemented bits.old }
 {
-    let ones: [u8; 16] = [1; 16];
-    add(&ones, bits);
+    add(&[1; 16], bits);
 }
 
 // One line of the division.
@@ -68,7 +59,7 @@ pub fn reduce(bits: &mut [u8])
     requires { 17 ≤ length bits.old }
     ensures { bits.new ≡ reduced bits.old }
 {
-    let generator: [u8; 17] = [1, 0, 0, 0, 1, 0, 0, 0, 0, 0, 0, 1, 0, 0, 0, 0, 1];
+    let generator = [1, 0, 0, 0, 1, 0, 0, 0, 0, 0, 0, 1, 0, 0, 0, 0, 1];
     if bits[0] == 1 {
         add(&generator, bits);
     }
@@ -79,11 +70,8 @@ fn divide(bits: &mut [u8])
     requires { 16 ≤ length bits.old }
     ensures { drop (length bits.old - 16) bits.new ≡ remainder bits.old }
 {
-    let last = bits.len() - 16;
-    let mut leading: usize = 0;
-    while leading < last {
+    for leading in 0..bits.len() - 16 {
         reduce(&mut bits[leading..]);
-        leading += 1;
     }
 }
 
@@ -92,9 +80,8 @@ fn sent(sequence: &[u8]) -> [u8; 2]
     requires { (length sequence.now ≡ 16) × (number (take 8 sequence.now) < 256) × (number (drop 8 sequence.now) < 256) }
     ensures { result ≡ number (take 8 sequence.now) ∷ number (drop 8 sequence.now) ∷ [] }
 {
-    let first = octet_of(&sequence[..8]);
-    let second = octet_of(&sequence[8..]);
-    [first, second]
+    let (low, high) = sequence.split_at(8);
+    [octet_of(low), octet_of(high)]
 }
 
 // The whole sum, in an array with room for the message and sixteen bits.

@@ -1,5 +1,5 @@
 -- What holds of a frame once a question is answered no.
-use Prim.Native.Nat.{ℕ, suc, ◌-◌, ◌≤◌}
+use Prim.Native.Nat.{ℕ, suc, ◌≤◌}
 use mathlib.Core.Path.{◌≡◌, refl}
 use mathlib.Core.Bool.{Bool, true, false, cond}
 use mathlib.Core.List.{List}
@@ -27,8 +27,3 @@ linked_long f e = length_right f (passed_by (length_wrong f) 0 _ e).0
 pub taken_long : (f : List ℕ) → taken_order f ≡ 0 → (10 ≤ length f) × (length f ≤ 490)
 unfolding taken_order
 taken_long f e = linked_long f (or_else_zero (link_order f) _ e).0
-
--- what the check covers is within the frame
-pub covered_le : (v : Bool) (n r : ℕ) → 10 ≤ n → r ≡ cond v 8 (n - 2) → r ≤ n - 2
-covered_le true n r h e = omega arith
-covered_le false n r h e = omega arith

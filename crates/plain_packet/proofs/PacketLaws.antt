@@ -1,15 +1,15 @@
 -- The packet judged, its frame made step by step, and what holds of it once nothing is refused.
 use Prim.Native.Nat.{ℕ, zero, suc, ◌+◌, ◌-◌, ◌*◌, ◌%◌, min, ◌≤◌, ◌<◌}
 use mathlib.Core.Path.{◌≡◌, refl, sym, ap, ap₂, ◌∙◌}
-use mathlib.Core.Bool.{Bool, true, false, ◌||◌}
+use mathlib.Core.Bool.{Bool, false, ◌||◌}
 use mathlib.Core.List.{List, [], ◌∷◌, ◌++◌}
 use native.Mathlib.Nat.{zero-add, suc-add}
-use native.Mathlib.Numerals.{add-one}
 use native.Mathlib.Omega.{arith}
 use borrow.Author.Tests.{ltb-false}
 use lib.Dec.{ltb, leb}
-use lib.ListN.{length, get_or, take, drop, replicate, length-append, drop_of_length-le}
-use lib.Seq.{drop-cons, take-append-add}
+use lib.ListN.{length, take, drop, replicate, length-append}
+use lib.Seq.{take-append-add}
+use Rattle.std.specs.List.{list_any}
 use Rattle.refusals.specs.Refusals.{address_bad}
 use Rattle.refusals.proofs.RefusalLaws.{or_else_zero, in_range}
 use Rattle.coding.specs.Coding.{sample_bits, droppable_bits, frame_length, reserved}
@@ -23,29 +23,11 @@ use Rattle.plain_passes.specs.Passes.{blocks_dropped, drop_pass}
 use Rattle.plain_passes.proofs.PassLaws.{drop_length}
 use Rattle.plain_packet.specs.Packet.{plain_header, plain_made, out_of_turn, too_large, packet_order, send_order}
 
--- the samples one after another
-pub large_more : (m : ℕ) (xs : List ℕ) (i : ℕ) (b : Bool) → i < length xs → ((b || leb m (get_or xs i 0)) || too_large m (drop (i + 1) xs)) ≡ (b || too_large m (drop i xs))
+-- one of the samples, in std's words
+pub large_is : (m : ℕ) (xs : List ℕ) → list_any (λ (x : ℕ). leb m x) xs ≡ too_large m xs
 unfolding too_large
-large_more m xs i b h =
-    rw (add-one i) (or_assoc b (leb m (get_or xs i 0)) (too_large m (drop (suc i) xs)) ∙ ap (λ (l : List ℕ). b || too_large m l) (sym (drop-cons xs i 0 h)))
-  where
-    or_assoc : (a b c : Bool) → ((a || b) || c) ≡ (a || (b || c))
-    or_assoc true b c = refl
-    or_assoc false b c = refl
-
-pub large_end : (m : ℕ) (xs : List ℕ) (i : ℕ) (b : Bool) → length xs ≤ i → (b || too_large m (drop i xs)) ≡ b
-unfolding too_large
-large_end m xs i b h = ap (λ (l : List ℕ). b || too_large m l) (drop_of_length-le xs {i = i} h) ∙ or_none b
-  where
-    or_none : (b : Bool) → (b || false) ≡ b
-    or_none true = refl
-    or_none false = refl
-
--- octets 1 to 8, made with D
-pub header_with : (coding more sequence noise d : ℕ) → d ≡ droppable_bits coding
-    → 0 ∷ 1 ∷ 239 ∷ 68 ∷ (d * 16 + d) ∷ 0 ∷ (more * 128 + coding) ∷ (sequence * 16 + noise) ∷ [] ≡ plain_header coding more sequence noise
-unfolding plain_header
-header_with coding more sequence noise d e = ap (λ (k : ℕ). 0 ∷ 1 ∷ 239 ∷ 68 ∷ (k * 16 + k) ∷ 0 ∷ (more * 128 + coding) ∷ (sequence * 16 + noise) ∷ []) e
+large_is m [] = refl
+large_is m (x ∷ xs) = ap (λ (b : Bool). leb m x || b) (large_is m xs)
 
 -- the array's front is the frame as it is made
 pub made_front : (head voice x : List ℕ) (s : ℕ) → length head ≡ 8 → length voice ≡ 16 * s → s ≤ 8 → x ≡ head ++ voice ++ drop (8 + 16 * s) (replicate 138 0)
@@ -67,10 +49,10 @@ made_front head voice x s eh ev h ex =
         ap (λ (m : ℕ). take 2 (drop n (replicate m 0))) e ∙ ap (take 2) (zeros_drop n (suc (suc (136 - n))))
 
 -- the frame as `send` makes it, step by step
-pub made_by : (t n : ℕ) (xs : List ℕ) (step : Step) (sseq more seq s : ℕ) (head : List ℕ) → more ≡ more_sent step → seq ≡ sequence_sent step sseq → head ≡ plain_header t more seq n → s ≡ sample_bits t
-    → head ++ picked_blocks s xs s ++ 0 ∷ 0 ∷ [] ≡ plain_made t (more_sent step) (sequence_sent step sseq) n xs
+pub made_by : (t n : ℕ) (xs : List ℕ) (turn : Step) (sseq more seq s : ℕ) (head : List ℕ) → more ≡ more_sent turn → seq ≡ sequence_sent turn sseq → head ≡ plain_header t more seq n → s ≡ sample_bits t
+    → head ++ picked_blocks s xs s ++ 0 ∷ 0 ∷ [] ≡ plain_made t (more_sent turn) (sequence_sent turn sseq) n xs
 unfolding plain_made
-made_by t n xs step sseq more seq s head em eq eh es = rw (eh, em, eq, es) refl
+made_by t n xs turn sseq more seq s head em eq eh es = rw (eh, em, eq, es) refl
 
 made_length : (t more seq n : ℕ) (xs : List ℕ) → length (plain_made t more seq n xs) ≡ 16 * sample_bits t + 10
 unfolding plain_made plain_header

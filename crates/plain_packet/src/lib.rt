@@ -1,102 +1,101 @@
 // The packet that the origin is given: what is wrong with it, and the frame that is made of it and sent on.
 #![tactic(auto)]
 
-ghost use Rattle.std.specs.Prelude.{◌≡◌, [], ◌∷◌, ◌++◌, ◌+◌, ◌*◌, ◌^◌, ◌<◌, ◌≤◌, min, length, drop};
+ghost use Rattle.std.specs.Prelude.{◌≡◌, ℕ, leb, [], ◌∷◌, ◌++◌, ◌+◌, ◌*◌, ◌^◌, ◌<◌, ◌≤◌, min, length, drop};
+ghost use Rattle.std.specs.List.{list_any};
+ghost use Rattle.refusals.specs.Refusals.{refusal_of};
 ghost use Rattle.coding.specs.Coding.{droppable_bits, frame_length};
 ghost use Rattle.plain_blocks.specs.Figure7.{picked_blocks};
-ghost use Rattle.plain_passes.specs.Passes.{drop_pass, passed};
+ghost use Rattle.plain_passes.specs.Passes.{drop_pass, passed, wait_between};
 ghost use Rattle.plain_packet.specs.Packet.{plain_header, out_of_turn, samples_wrong, packet_order, send_order};
 
 use coding::Coding;
-use origin::Step;
+use onward::Hop;
+use origin::{Packet, Step};
+use refusals::Refusal;
 
 // START begins a burst, DATA and STOP are within one.
+#[tactic(auto, unfolding(crate::specs::Packet::out_of_turn))]
 fn out_of_turn(step: Step, sseq: u8) -> bool
     ensures { result ≡ out_of_turn step sseq }
 {
     match step {
         Step::Start => sseq != 0,
-        Step::Data => sseq == 0,
-        Step::Stop => sseq == 0,
+        Step::Data | Step::Stop => sseq == 0,
     }
 }
 
+// One of them is the limit or more.
+fn too_large(samples: &[u8], limit: usize) -> bool
+    ensures { result ≡ list_any (λ x. leb limit x) samples.now }
+{
+    samples.iter().any(|x| limit <= usize::from(*x))
+}
+
 // `packet_order` shows that a sample has at most 8 bits.
+#[tactic(auto, unfolding(crate::specs::Packet::samples_wrong))]
 fn samples_wrong(samples: &[u8], s: usize) -> bool
     requires { s ≤ 8 }
     ensures { result ≡ samples_wrong samples.now s }
 {
-    if samples.len() != 128 {
-        return true;
-    }
-    let limit: usize = 1 << s;
-    let mut large = false;
-    let mut i: usize = 0;
-    while i < 128 {
-        large = large | (limit <= octets::wide(samples[i]));
-        i += 1;
-    }
-    large
+    samples.len() != 128 || too_large(samples, 1 << s)
 }
 
-fn packet_order(sseq: u8, step: Step, coding: u8, noise: u8, samples: &[u8]) -> u8
-    ensures { result ≡ packet_order sseq step coding noise samples.now }
+#[tactic(auto, using(refusals::proofs::RefusalLaws::judged, coding::proofs::CodingLaws::s_le_8), unfolding(crate::specs::Packet::packet_order))]
+fn packet_order(sseq: u8, packet: Packet, samples: &[u8]) -> Result<(), Refusal>
+    ensures { refusal_of result ≡ packet_order sseq packet.step packet.coding.0 packet.noise samples.now }
 {
     if 15 < sseq {
-        return 14; // SSEQ above 15
+        return Err(Refusal::Record); // 14: SSEQ above 15
     }
-    if out_of_turn(step, sseq) {
-        return 13; // START inside a burst, DATA or STOP outside
+    if out_of_turn(packet.step, sseq) {
+        return Err(Refusal::OutOfTurn); // 13: START inside a burst, DATA or STOP outside
     }
-    if Coding(coding).reserved() {
-        return 6; // coding type reserved or above 31
+    if packet.coding.reserved() {
+        return Err(Refusal::CodingType); // 6: coding type reserved or above 31
     }
-    if 15 < noise {
-        return 12; // noise above 15
+    if 15 < packet.noise {
+        return Err(Refusal::Bits); // 12: noise above 15
     }
-    if samples_wrong(samples, octets::wide(Coding(coding).sample_bits())) {
-        return 11; // not 128 samples, or one is 2^S or more
+    if samples_wrong(samples, usize::from(packet.coding.sample_bits())) {
+        return Err(Refusal::Samples); // 11: not 128 samples, or one is 2^S or more
     }
-    0
+    Ok(())
 }
 
 // How long the frame is that the origin sends: it drops as many blocks as the level says, but at most D.
-fn sent_length(coding: u8, level: usize) -> usize
-    ensures { result ≡ frame_length coding (min (droppable_bits coding) level) }
+fn sent_length(coding: Coding, level: u8) -> usize
+    ensures { result ≡ frame_length coding.0 (min (droppable_bits coding.0) level) }
 {
-    let d = octets::wide(Coding(coding).droppable_bits());
-    Coding(coding).frame_length(octets::lesser(d, level))
+    let dropped = coding.droppable_bits().min(level);
+    coding.frame_length(usize::from(dropped))
 }
 
+#[tactic(auto, using(refusals::proofs::RefusalLaws::judged), unfolding(crate::specs::Packet::send_order))]
 pub fn send_order(
     sseq: u8,
-    step: Step,
-    coding: u8,
-    noise: u8,
+    packet: Packet,
     samples: &[u8],
-    level: u8,
-    address: u16,
+    hop: Hop,
     room: usize,
-) -> u8
-    ensures { result ≡ send_order sseq step coding noise samples.now level address room }
+) -> Result<(), Refusal>
+    ensures { refusal_of result ≡ send_order sseq packet.step packet.coding.0 packet.noise samples.now hop.level hop.address room }
 {
-    let wrong = packet_order(sseq, step, coding, noise, samples);
-    if wrong != 0 {
-        return wrong;
+    packet_order(sseq, packet, samples)?;
+    if 3 < hop.level {
+        return Err(Refusal::Level); // 10: level above 3
     }
-    if 3 < level {
-        return 10; // level above 3
+    if refusals::address_bad(usize::from(hop.address)) {
+        return Err(Refusal::OutgoingAddress); // 15: outgoing address outside range
     }
-    if refusals::address_bad(address as usize) {
-        return 15; // outgoing address outside range
+    if room < sent_length(packet.coding, hop.level) {
+        return Err(Refusal::Room); // 16: output buffer shorter than the frame to be written
     }
-    if room < sent_length(coding, level as usize) {
-        return 16; // output buffer shorter than the frame to be written
-    }
-    0
+    Ok(())
 }
 
 // Octets 1 to 8 as they are made. Here and below `plain::send` has refused what the requires leave out.
+#[tactic(auto, using(coding::proofs::CodingLaws::d_le_3), unfolding(crate::specs::Packet::plain_header))]
 pub fn header(coding: u8, more: u8, sequence: u8, noise: u8) -> [u8; 8]
     requires { (coding < 32) × (more ≤ 1) × (sequence ≤ 15) × (noise ≤ 15) }
     ensures { result ≡ plain_header coding more sequence noise }
@@ -119,25 +118,24 @@ pub fn make(head: [u8; 8], s: usize, samples: &[u8], frame: &mut [u8])
     requires { (s ≤ 8) × (length frame.old ≡ 138) }
     ensures { frame.new ≡ head ++ picked_blocks s samples.now s ++ drop (8 + 16 * s) frame.old }
 {
-    octets::copy(&head, frame);
+    frame[..8].copy_from_slice(&head);
     plain_blocks::pick_blocks(samples, s, &mut frame[8..]);
 }
 
 // The frame is made with C = D and stamp 0, and then goes through the node's passes.
-pub fn write(
-    head: [u8; 8],
-    s: usize,
-    samples: &[u8],
-    level: u8,
-    wait: usize,
-    address: u16,
-    out: &mut [u8],
-) -> usize
-    requires { (s ≤ 8) × (wait < 2 ^ 32) × (address < 8192) × (length (drop_pass level (head ++ picked_blocks s samples.now s ++ 0 ∷ 0 ∷ [])) ≤ length out.old) }
-    ensures { (result ≡ length (passed level wait address (head ++ picked_blocks s samples.now s ++ 0 ∷ 0 ∷ []))) × (out.new ≡ passed level wait address (head ++ picked_blocks s samples.now s ++ 0 ∷ 0 ∷ []) ++ drop result out.old) }
+pub fn write(head: [u8; 8], s: usize, samples: &[u8], hop: Hop, out: &mut [u8]) -> usize
+    requires { (s ≤ 8) × (hop.address < 8192) × (length (drop_pass hop.level (head ++ picked_blocks s samples.now s ++ 0 ∷ 0 ∷ [])) ≤ length out.old) }
+    ensures { (result ≡ length (passed hop.level (wait_between hop.from hop.to) hop.address (head ++ picked_blocks s samples.now s ++ 0 ∷ 0 ∷ []))) × (out.new ≡ passed hop.level (wait_between hop.from hop.to) hop.address (head ++ picked_blocks s samples.now s ++ 0 ∷ 0 ∷ []) ++ drop result out.old) }
 {
     let mut made = [0u8; 138];
     make(head, s, samples, &mut made);
-    let n = 8 + 16 * s + 2;
-    plain_passes::send_on(&made[..n], level as usize, wait, address as usize, out)
+    let frame = &made[..8 + 16 * s + 2];
+    let wait = plain_passes::wait_between(hop.from, hop.to);
+    plain_passes::send_on(
+        frame,
+        usize::from(hop.level),
+        wait,
+        usize::from(hop.address),
+        out,
+    )
 }

@@ -1,7 +1,7 @@
 -- How long a frame is after a pass, and the passes as they are put into a buffer.
-use Rattle.std.proofs.Common.{◌≡◌, ℕ, ◌+◌, ◌-◌, ◌*◌, ◌≤◌, min, List, [], ◌++◌, length, get_or, take, drop, set, sym, refl, ap, ◌∙◌, ap₂, append-nil, add-one, arith, length-append, length-drop, length-set, drop_of_length-le, length-take, length-take-le, take-take, take_at, take-add}
+use Rattle.std.proofs.Common.{◌≡◌, ℕ, ◌+◌, ◌-◌, ◌*◌, ◌≤◌, min, List, ◌++◌, length, take, drop, set, sym, refl, ap, ◌∙◌, ap₂, arith, length-append, length-drop, length-set, length-take, length-take-le, take-take, take_at, take-add}
 use borrow.Rule.Slice.PartMut.{mid_of, put_mid}
-use lib.Seq.{set-append_left, sets-eq}
+use lib.Seq.{set-append_left}
 use Rattle.octets.specs.Octets.{octet}
 use Rattle.octets.proofs.PartLaws.{tail_of, tail_put}
 use Rattle.plain_check.specs.Check.{check_octets}
@@ -32,21 +32,16 @@ passed_length level wait addr f long =
     let same : length (address_pass addr (stamp_pass wait (drop_pass level f))) ≡ length (drop_pass level f) = simp length-set refl in
     seal_length (address_pass addr (stamp_pass wait (drop_pass level f))) (omega (arith, drop_length level f long)) ∙ same
 
--- four: two stores at the end
-pub seal_put : (f check : List ℕ) → 10 ≤ length f → check ≡ check_octets (take 8 f) → set (set f (length f - 2) (get_or check 0 0)) (length f - 1) (get_or check 1 0) ≡ seal_pass f
-unfolding seal_pass check_octets
-seal_put f check long e =
-    let n = length f - 2 in
-    let m : length f - 1 ≡ n + 1 = omega arith in
-    ap₂ (λ (k : ℕ) (c : List ℕ). set (set f n (get_or c 0 0)) k (get_or c 1 0)) m e
-    ∙ rw (add-one n) (sets-eq (check_octets (take 8 f)) f n (omega arith))
-    ∙ ap (λ (r : List ℕ). take n f ++ check_octets (take 8 f) ++ r) (drop_of_length-le f {i = n + 2} (omega arith))
-    ∙ append-nil (take n f ++ check_octets (take 8 f))
-
 -- one: the front of the frame is copied, its last two octets after it, and octet 5 is set
 module _ (level : ℕ) (f : List ℕ) (long : 10 ≤ length f) where
   abbrev m : ℕ
   m = length f - 10 - 16 * blocks_dropped level f
+
+  -- the buffer is as long as it was, once its front is copied
+  pub copied : (out h : List ℕ) (kept : ℕ) → length out ≡ length (drop_pass level f) → kept ≡ length out - 2 → length h ≡ length (take kept out) → (2 ≤ length out) × (length (h ++ drop kept out) ≡ length out)
+  copied out h kept eo ek eh =
+      let size : length out ≡ 10 + m = eo ∙ drop_length level f long in
+      (omega arith, length-append h (drop kept out) ∙ omega (arith, length-take-le kept out (omega arith), length-drop kept out))
 
   front : (v : ℕ) → set (take (8 + m) f) 4 v ≡ set (take 8 f) 4 v ++ take m (voice_field f)
   front v =
@@ -54,23 +49,16 @@ module _ (level : ℕ) (f : List ℕ) (long : 10 ≤ length f) where
       ∙ set-append_left (take 8 f) (take m (drop 8 f)) 4 v (omega (arith, length-take-le 8 f (omega arith)))
       ∙ ap (λ (l : List ℕ). set (take 8 f) 4 v ++ l) (sym (take-take m (length f - 10) (drop 8 f) (omega arith)))
 
-  pub drop_put : (out x p : List ℕ) (v kept end : ℕ) → length out ≡ length (drop_pass level f) → kept ≡ length out - 2 → end ≡ length f - 2
-      → v ≡ octet 5 f - blocks_dropped level f
-      → x ≡ take kept f ++ drop (length (take kept f)) out
-      → p ≡ mid_of end (length f - end) f ++ drop (length (mid_of end (length f - end) f)) (mid_of kept (length x - kept) x)
-      → set (put_mid kept (length x - kept) x p) 4 v ≡ drop_pass level f
+  pub drop_put : (out h p : List ℕ) (v kept end : ℕ) → length out ≡ length (drop_pass level f) → kept ≡ length out - 2 → end ≡ length f - 2
+      → v ≡ octet 5 f - blocks_dropped level f → h ≡ take kept f → p ≡ mid_of end (length f - end) f
+      → set (put_mid kept (length (h ++ drop kept out) - kept) (h ++ drop kept out) p) 4 v ≡ drop_pass level f
   unfolding drop_pass
-  drop_put out x p v kept end eo ek ee ev ex ep =
+  drop_put out h p v kept end eo ek ee ev eh ep =
       let size : length out ≡ 10 + m = eo ∙ drop_length level f long in
       let front_length : kept ≡ 8 + m = omega arith in
-      let l : length (take kept f) ≡ kept = length-take-le kept f (omega arith) in
-      let lx : length x ≡ kept + 2 = ap length ex ∙ length-append (take kept f) (drop (length (take kept f)) out) ∙ omega (arith, length-drop (length (take kept f)) out) in
-      let tail : mid_of end (length f - end) f ≡ drop (length f - 2) f = tail_of end f ∙ ap (λ (k : ℕ). drop k f) ee in
-      let two : length (mid_of end (length f - end) f) ≡ 2 = ap length tail ∙ length-drop (length f - 2) f ∙ omega arith in
-      let none : drop (length (mid_of end (length f - end) f)) (mid_of kept (length x - kept) x) ≡ [] =
-      drop_of_length-le (mid_of kept (length x - kept) x) {i = length (mid_of end (length f - end) f)} (omega (arith, ap length (tail_of kept x), length-drop kept x)) in
-      let last : p ≡ drop (length f - 2) f = ep ∙ ap₂ (λ (y z : List ℕ). y ++ z) tail none ∙ append-nil (drop (length f - 2) f) in
-      let head : take kept x ≡ take kept f = ap (take kept) ex ∙ take_at (take kept f) (drop (length (take kept f)) out) kept l in
-      ap (λ (y : List ℕ). set y 4 v) (tail_put kept x p (omega arith) ∙ ap₂ (λ (y z : List ℕ). y ++ z) head last)
-      ∙ set-append_left (take kept f) (drop (length f - 2) f) 4 v (omega arith)
+      let l : length h ≡ kept = ap length eh ∙ length-take-le kept f (omega arith) in
+      let room : kept ≤ length (h ++ drop kept out) = rw length-append (omega arith) in
+      let last : p ≡ drop (length f - 2) f = ep ∙ tail_of end f ∙ ap (λ (k : ℕ). drop k f) ee in
+      ap (λ (y : List ℕ). set y 4 v) (tail_put kept (h ++ drop kept out) p room ∙ ap₂ (λ (y z : List ℕ). y ++ z) (take_at h (drop kept out) kept l ∙ eh) last)
+      ∙ set-append_left (take kept f) (drop (length f - 2) f) 4 v (omega (arith, ap length eh))
       ∙ ap (λ (y : List ℕ). y ++ drop (length f - 2) f) (ap₂ (λ (k w : ℕ). set (take k f) 4 w) front_length ev ∙ front (octet 5 f - blocks_dropped level f))

@@ -11,20 +11,20 @@ use Rattle.refusals.proofs.RefusalLaws.{if_same}
 use Rattle.coding.specs.Coding.{sample_bits}
 use Rattle.frame.specs.Fields.{coding}
 use Rattle.onward.specs.Onward.{wait_of, onward}
-use Rattle.onward.specs.Sent.{sent_answer, sent_buffer}
-use Rattle.onward.specs.declared.Sent.{Sent}
+use Rattle.onward.proofs.SentLaws.{sent_one}
+use Rattle.onward.specs.Sent.{Sent, sent_answer, sent_buffer}
 use Rattle.node.specs.Node.{forward_answer, forward_buffer}
 use Rattle.origin.specs.Burst.{sseq_set}
 use Rattle.origin.specs.Send.{send_answer, send_buffer, send_sseq}
 use Rattle.origin.specs.declared.Step.{Step}
-use Rattle.endpoint.specs.Read.{samples_of, heard_of, read_answer}
-use Rattle.endpoint.specs.declared.Heard.{Heard}
+use Rattle.endpoint.specs.Read.{Heard, samples_of, heard_of, read_answer}
 use Rattle.plain_order.specs.Order.{read_order}
 use Rattle.plain_passes.specs.Passes.{wait_between, passed}
 use Rattle.plain.specs.Forward.{forward_order, plain_forward_answer, plain_forward_buffer}
 use Rattle.plain.specs.Read.{blocks_missing, blocks_present, plain_read}
 use Rattle.plain.specs.Send.{plain_send_answer, plain_send_buffer, plain_send_sseq}
 use Rattle.plain.proofs.PlainLaws.{forward_taken}
+use Rattle.plain.proofs.OneOutcome.{heard_one}
 use Rattle.plain_same.proofs.BlockLaws.{read_words_lem}
 use Rattle.plain_same.proofs.SameOrders.{forward_order_lem, read_order_lem, send_order_lem}
 use Rattle.plain_same.proofs.StepLaws.{passes_are, sent_is}
@@ -78,17 +78,20 @@ send_same sseq step t n xs level from to addr out =
 -- And so of the calls themselves: two outcomes of the same inputs, one that the plain call's contract allows and one that the quick call's does, are equal.
 pub forward_calls : (κs : Lfts 2) (a : Dens κs forward-kinds.ps) (r r' : _) (s s' : AtExit (ended_of 2 forward-kinds.ps forward-kinds.r) κs)
     → plain-forward.Post κs a r s → quick-forward.Post κs a r' s'
-    → (r ≡ r') × (s.1.1.1.1.1.0.now ≡ s'.1.1.1.1.1.0.now)
+    → (r ≡ r') × (s.1.1.0.now ≡ s'.1.1.0.now)
 forward_calls κs a r r' s s' p q =
-    let e = forward_same a.1.0 a.1.1.0 a.1.1.1.0 a.1.1.1.1.0 a.0.now a.1.1.1.1.1.0.now in
-    (p.0 ∙ e.0 ∙ sym q.0, p.1 ∙ e.1 ∙ sym q.1)
+    let hop = a.1.0 in
+    let e = forward_same hop.level hop.from hop.to hop.address a.0.now a.1.1.0.now in
+    (sent_one r r' (p.0 ∙ e.0 ∙ sym q.0), p.1 ∙ e.1 ∙ sym q.1)
 
 pub read_calls : (κs : Lfts 1) (a : Dens κs read-kinds.ps) (r r' s s' : _) → plain-read.Post κs a r s → quick-read.Post κs a r' s' → r ≡ r'
-read_calls κs a r r' s s' p q = p ∙ read_same a.0.now ∙ sym q
+read_calls κs a r r' s s' p q = heard_one r r' (p ∙ read_same a.0.now ∙ sym q)
 
 pub send_calls : (κs : Lfts 3) (a : Dens κs send-kinds.ps) (r r' : _) (s s' : AtExit (ended_of 3 send-kinds.ps send-kinds.r) κs)
     → plain_send.Post κs a r s → quick-send.Post κs a r' s'
-    → (r ≡ r') × (s.1.1.1.1.1.1.1.1.1.0.now ≡ s'.1.1.1.1.1.1.1.1.1.0.now) × (s.0.now ≡ s'.0.now)
+    → (r ≡ r') × (s.1.1.1.1.0.now ≡ s'.1.1.1.1.0.now) × (s.0.now ≡ s'.0.now)
 send_calls κs a r r' s s' p q =
-    let e = send_same a.0.now a.1.0 a.1.1.0 a.1.1.1.0 a.1.1.1.1.0.now a.1.1.1.1.1.0 a.1.1.1.1.1.1.0 a.1.1.1.1.1.1.1.0 a.1.1.1.1.1.1.1.1.0 a.1.1.1.1.1.1.1.1.1.0.now in
-    (p.0 ∙ e.0 ∙ sym q.0, p.1.0 ∙ e.1 ∙ sym q.1.0, p.1.1 ∙ e.2 ∙ sym q.1.1)
+    let packet = a.1.0 in
+    let hop = a.1.1.1.0 in
+    let e = send_same a.0.now packet.step packet.coding.0 packet.noise a.1.1.0.now hop.level hop.from hop.to hop.address a.1.1.1.1.0.now in
+    (sent_one r r' (p.0 ∙ e.0 ∙ sym q.0), p.1.0 ∙ e.1 ∙ sym q.1.0, p.1.1 ∙ e.2 ∙ sym q.1.1)

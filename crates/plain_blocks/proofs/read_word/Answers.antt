@@ -9,7 +9,7 @@ use Rattle.plain_blocks.proofs.Figure7Laws.{word_none, word_more, word_below}
 use Rattle.plain_blocks.proofs.read_word.Goals as goal
 
 pub loop-b-init : goal.loop-b-init
-loop-b-init c = (omega arith, sym (word_none _ _))
+loop-b-init c = sym (word_none _ _)
 
 pub overflow_mul-word : goal.overflow_mul-word
 overflow_mul-word c =
@@ -29,10 +29,10 @@ pub loop-b-preserved : goal.loop-b-preserved
 loop-b-preserved c =
     let a = c.args in
     let l = c.loop-b in
-    (omega arith, rw (add-one l.b) (ap₂ (λ (x y : ℕ). 2 * x + y) l.invariant.1 c.read_bit.ensures.0 ∙ sym (word_more a.voice.now l.b (a.i + 1))))
+    rw (add-one l.b) (ap₂ (λ (x y : ℕ). 2 * x + y) l.invariant c.read_bit.ensures.0 ∙ sym (word_more a.voice.now l.b (a.i + 1)))
 
 pub returns : goal.returns
 returns c =
     let a = c.args in
     let l = c.loop-b in
-    l.invariant.1 ∙ ap (λ (k : ℕ). read_word a.voice.now k (a.i + 1)) (omega arith)
+    l.invariant ∙ ap (λ (k : ℕ). read_word a.voice.now k (a.i + 1)) (omega arith)

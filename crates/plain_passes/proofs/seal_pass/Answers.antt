@@ -1,16 +1,12 @@
 -- `seal_pass` meets its contract.
-use Rattle.std.proofs.Common.{sym, arith, length-set, length-take, length-take-le}
-use Rattle.plain_passes.proofs.PassLaws.{seal_put}
+use Rattle.std.proofs.Common.{◌-◌, ◌++◌, length, take, ap, ◌∙◌, arith}
+use Rattle.octets.proofs.PartLaws.{tail_put}
+use Rattle.plain_passes.specs.Passes.{seal_pass}
 use Rattle.plain_passes.proofs.seal_pass.Goals as goal
 
-pub slice_bounds-check-end-2 : goal.slice_bounds-check-end-2
-slice_bounds-check-end-2 c = sym (length-take-le 8 c.args.out.now (omega arith))
-
-pub check-check-requires : goal.check-check-requires
-check-check-requires c = omega (arith, length-take 8 c.args.out.now)
-
-pub bounds-out-n-2 : goal.bounds-out-n-2
-bounds-out-n-2 c = simp length-set (omega arith)
-
 pub returns : goal.returns
-returns c = seal_put c.args.out.now c.check-check.result (omega arith) c.check-check.ensures
+unfolding seal_pass
+returns c =
+    let l = c.args.out.now in
+    let n = length l - 2 in
+    tail_put n l c.copy_from_slice.new.self (omega arith) ∙ ap (λ r. take n l ++ r) (c.copy_from_slice.ensures.after ∙ c.check-check.ensures)
