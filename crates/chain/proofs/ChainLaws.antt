@@ -23,7 +23,7 @@ use Rattle.node.proofs.ForwardLaws.{not_refused}
 use Rattle.origin.specs.Burst.{sequence_sent, more_sent}
 use Rattle.origin.specs.Send.{made_head, made, send_written, send_refusal, send_answer, send_buffer}
 use Rattle.origin.proofs.SendLaws.{SendTaken, send_taken, written_field, sent_length, sent_M, sent_C, sent_voice, sent_stamp, sent_passes, sent_coding, sent_more, sent_sequence, sent_noise}
-use Rattle.endpoint.specs.declared.Heard.{Heard}
+use Rattle.endpoint.specs.Read.{Heard}
 use Rattle.endpoint.specs.Read.{samples_of, heard_of, read_answer}
 use Rattle.chain.specs.Chain.{Origin, refused_at, sent, Node, refused_by, handed, chain, AllTake, AllReady, levels, waits, last_address, single, lost, what_is_heard}
 

@@ -7,7 +7,7 @@ use Rattle.onward.specs.Onward.{wait_of, onward}
 use Rattle.node.specs.Node.{forward_answer, forward_buffer}
 use Rattle.origin.specs.Send.{send_answer, send_buffer}
 use Rattle.origin.specs.declared.Step.{Step}
-use Rattle.endpoint.specs.declared.Heard.{Heard}
+use Rattle.endpoint.specs.Read.{Heard}
 
 -- one call of `origin::send`: what it is given
 pub record Origin : Type 0 where

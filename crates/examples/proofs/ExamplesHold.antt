@@ -17,12 +17,10 @@ use Rattle.blocks.specs.Blocks.{field, gather, block_octet, weight, samples_fit,
 use Rattle.blocks.proofs.BlocksLaws.{length_field, field_at}
 use Rattle.frame.specs.Fields.{stamp, more_bit, sequence, noise}
 use Rattle.frame.specs.Orders.{taken_refusal, voice_refusal, signal_refusal as readerRefusal}
-use Rattle.frame.specs.Calls.{taken_answer}
-use Rattle.frame.specs.declared.TakenFacts.{TakenFacts}
+use Rattle.frame.specs.Calls.{Taken, taken_answer}
 use Rattle.frame.proofs.FrameLaws.{Passes, passes, passed, link_passed, layout_passed}
 use Rattle.onward.specs.Onward.{wait_of, stamp_after, dropped, onward_head, onward_field, framed, onward}
-use Rattle.onward.specs.Sent.{sent_answer, sent_buffer}
-use Rattle.onward.specs.declared.Sent.{Sent}
+use Rattle.onward.specs.Sent.{Sent, sent_answer, sent_buffer}
 use Rattle.onward.proofs.OnwardLaws.{onward_length, closed}
 use Rattle.onward.proofs.SentLaws.{answered, whole_output}
 use Rattle.node.specs.Node.{forward_refusal, forward_answer, forward_buffer}
@@ -35,13 +33,11 @@ use Rattle.origin.specs.Signal.{signal_head, signal_written, signal_refusal, sig
 use Rattle.origin.proofs.SendLaws.{taken_send, made_passes, written_field, written_length}
 use Rattle.origin.proofs.SignalLaws.{taken_signal, signal_length}
 use Rattle.playout.specs.declared.Endpoint.{Endpoint}
-use Rattle.endpoint.specs.declared.Heard.{Heard}
-use Rattle.endpoint.specs.declared.SignalHeard.{SignalHeard}
 use Rattle.playout.specs.Counts.{missing_between}
 use Rattle.playout.specs.Play.{fresh_record, clock_limit, record_bad, refusal14, in_turn, hold, due_at, play_refusal, scheduled_at, after_scheduled}
-use Rattle.endpoint.specs.Read.{heard_of, read_answer}
+use Rattle.endpoint.specs.Read.{Heard, heard_of, read_answer}
 use Rattle.endpoint.specs.Arrival.{frame_decision, arrival_by, arrival_of}
-use Rattle.endpoint.specs.Signal.{signal_order, signal_answer as signalHeard}
+use Rattle.endpoint.specs.Signal.{SignalHeard, signal_order, signal_answer as signalHeard}
 use Rattle.playout.proofs.PlayLaws.{in_range, fresh_ranged, decided_scheduled, decided_number, by_decision}
 use Rattle.examples.specs.Examples.{Arrives, first, three, table, sent, start_answer, start_frame, then_zeros, LegalSend, LegalVoice, LegalSignal, Arriving, LateOn, holds, AllHold, none, ◌also◌}
 use Rattle.examples.specs.Examples.{starts, then_level, packs, addresses, no_address, waits, stamps, schedules, next, plays, late, late_ever, signals}
@@ -54,7 +50,7 @@ number_is number (suc n) done refused d r = r
 
 node_passes : (f : List ℕ) → (taken_answer f).refusal ≡ 0 → Passes f
 unfolding taken_answer
-node_passes f h = passes f (sym (number_is (λ (a : TakenFacts). a.refusal) (taken_refusal f) _ _ refl refl) ∙ h)
+node_passes f h = passes f (sym (number_is (λ (a : Taken). a.refusal) (taken_refusal f) _ _ refl refl) ∙ h)
 
 reader_passes : (f : List ℕ) → (read_answer f).refusal ≡ 0 → voice_refusal f ≡ 0
 unfolding read_answer heard_of

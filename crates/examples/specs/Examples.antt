@@ -7,7 +7,7 @@ use Rattle.blocks.specs.Blocks.{samples_fit}
 use Rattle.frame.specs.Fields.{is_voice, stamp, more_bit, sequence}
 use Rattle.frame.specs.Calls.{taken_answer}
 use Rattle.onward.specs.Onward.{wait_of}
-use Rattle.onward.specs.declared.Sent.{Sent}
+use Rattle.onward.specs.Sent.{Sent}
 use Rattle.node.specs.Node.{forward_answer, forward_buffer}
 use Rattle.origin.specs.declared.Step.{Step}
 use Rattle.origin.specs.declared.Step.TheVariants.{Start}

@@ -27,16 +27,15 @@ fn hex(rt: &HostRuntime, s: &[u8]) -> io::Result<()> {
 
 // The check of all but the last two octets.
 fn check(frame: &[u8]) -> u16 {
-    let n = octets::less(frame.len(), 2);
-    fcs::fcs(&frame[..n])
+    fcs::fcs(&frame[..frame.len().saturating_sub(2)])
 }
 
 fn line(rt: &HostRuntime, frame: &[u8]) -> io::Result<()> {
     let sent = check(frame);
     hex(rt, frame)?;
     print!(rt; "-> ")?;
-    hex(rt, &[(sent % 256) as u8, (sent / 256) as u8])?;
-    if fcs::good(frame, octets::less(frame.len(), 2)) {
+    hex(rt, &sent.to_le_bytes())?;
+    if fcs::good(frame, frame.len().saturating_sub(2)) {
         println!(rt; "good")
     } else {
         println!(rt; "not good")

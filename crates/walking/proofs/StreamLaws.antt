@@ -3,44 +3,31 @@ use Prim.Native.Nat.{ℕ, ◌+◌, ◌-◌, ◌≤◌, ◌<◌}
 use mathlib.Core.Path.{◌≡◌, refl, sym, ap, ◌∙◌}
 use mathlib.Core.Bool.{Bool, true, false, ◌&&◌, ◌||◌, not}
 use mathlib.Core.List.{List, [], ◌++◌, append_assoc, append-nil}
-use native.Mathlib.Nat.{add_comm}
 use native.Mathlib.Omega.{arith}
 use lib.Dec.{leb, ltb}
-use lib.ListN.{length, take, drop, get_or, set, length-append, length-drop, drop_of_length-le}
-use lib.Seq.{sets-eq, length-sets, length-take-le, get_or-append-add, get_or-drop, take_at, take-append-le, take-take, take-add, drop_at, drop-append-le, drop-drop}
+use lib.ListN.{length, take, drop, length-append, length-drop, drop_of_length-le}
+use lib.Seq.{sets-eq, length-sets, length-take-le, take_at, take-append-le, take-take, take-add, drop_at, drop-append-le, drop-drop}
 use borrow.Rule.Slice.PartMut.{put_mid}
+use Rattle.std.specs.Option.{unwrap_or}
 use Rattle.std.specs.Result.{IfOk, result_unwrap_or}
 use Rattle.std.specs.Counts.{IsPrefixLen}
-use Rattle.std.specs.Prelude.{Result, Ok, Err}
+use Rattle.std.specs.Prelude.{is_some, Some, Result, Ok, Err}
 use borrow.Author.Tests.{leb-true, ltb-true, ltb-false, not-false}
-use Rattle.octets.proofs.PartLaws.{copied_more, tail_put}
+use Rattle.octets.proofs.PartLaws.{tail_put}
 use Rattle.octets.proofs.BoolLaws.{and_true, or_false}
 use Rattle.walking.specs.Text.{Put}
 use Rattle.walking.specs.Walk.{Carried, step, Prints, ended, stopped, gone_on}
 use Rattle.walking.specs.Held.{carried_of, Stepping}
 use Rattle.walking.specs.Stream.{whole, ready, PrintsOn}
 use Rattle.walking.specs.declared.Stepped.{Stepped}
-use Rattle.walking.proofs.WalkLaws.{step_front, taken_within}
+use Rattle.walking.proofs.WalkLaws.{step_front, taken_within, taken_some}
 
--- a turn of the loop that moves the octets from `from` on to the front
-pub moved_more : (old : List ℕ) (from i : ℕ) → from + i < length old
-    → set (take i (drop from old) ++ drop i old) i (get_or (take i (drop from old) ++ drop i old) (from + i) 0)
-    ≡ take (i + 1) (drop from old) ++ drop (i + 1) old
-moved_more old from i h =
-    let n : length (drop from old) ≡ length old - from = length-drop from old in
-    let l : length (take i (drop from old)) ≡ i = length-take-le i (drop from old) (omega arith) in
-    let at : from + i ≡ length (take i (drop from old)) + from = omega arith in
-    let e : get_or (take i (drop from old) ++ drop i old) (from + i) 0 ≡ get_or (drop from old) i 0 =
-    ap (λ (k : ℕ). get_or (take i (drop from old) ++ drop i old) k 0) at ∙ get_or-append-add (take i (drop from old)) (drop i old) from 0
-    ∙ get_or-drop i old from 0 ∙ ap (λ (k : ℕ). get_or old k 0) (add_comm i from) ∙ sym (get_or-drop from old i 0) in
-    rw e (copied_more (drop from old) old i (omega arith) (omega arith))
-
--- what was moved to the front stays there when the rest of the buffer is read into
 -- what a read put into the part of a buffer that it was lent; a read that fails put nothing
 pub read_within : {E : Type 0} (r : Result ℕ E) (part : List ℕ) → IfOk r (λ n. IsPrefixLen n part) → result_unwrap_or r 0 ≤ length part
 read_within (Ok n) part h = omega (arith, h)
 read_within (Err e) part h = omega arith
 
+-- what was moved to the front stays there when the rest of the buffer is read into
 pub filled_front : (old m p : List ℕ) (from to more : ℕ) → from ≤ to → to ≤ length old → m ≡ take (to - from) (drop from old) ++ drop (to - from) old
     → take (to - from) (take (to - from + more - 0) (drop 0 (put_mid (to - from) (length m - (to - from)) m p))) ≡ take (to - from) (drop from old)
 filled_front old m p from to more h k e =
@@ -122,7 +109,7 @@ pub record Run (input out₀ : List ℕ) (have from₀ end₀ : ℕ) (over : Boo
   pub prints : (more lines : List ℕ) → (over ≡ true → more ≡ []) → Prints s (take (have - from) (drop from input) ++ more) lines
       → Prints s₀ (take (have - from₀) (drop from₀ input) ++ more) (drop end₀ (take end out) ++ lines)
 
-module _ (input out₀ : List ℕ) (have from₀ end₀ : ℕ) (over : Bool) (s₀ : Carried) where
+module _ {input out₀ : List ℕ} {have from₀ end₀ : ℕ} {over : Bool} {s₀ : Carried} where
   pub run_start : have ≤ length input → from₀ ≤ have → end₀ ≤ length out₀ → Run input out₀ have from₀ end₀ over s₀ s₀ from₀ end₀ out₀
   run_start h f e = record {
     within = h;
@@ -148,8 +135,17 @@ module _ (input out₀ : List ℕ) (have from₀ end₀ : ℕ) (over : Bool) (s�
     line_within : r.end ≤ length out
     line_within = omega (arith, st.line.within, run.room, run.same, (ready_known number (have - from) (length out₀ - end) over ok).1)
 
-    pub taken_here : from + r.taken ≤ have
-    taken_here = omega (arith, run.taken, st.taken, taken_within s (take (have - from) (drop from input)), here_length)
+    going_on : {n : ℕ} → r.taken ≡ Some n → (step s (take (have - from) (drop from input))).going ≡ true
+    going_on e = sym st.going ∙ rw e
+
+    taken_is : {n : ℕ} → r.taken ≡ Some n → n ≡ (step s (take (have - from) (drop from input))).taken
+    taken_is e = ap (λ o. unwrap_or o 0) (sym e) ∙ st.taken
+
+    pub taken_here : {n : ℕ} → r.taken ≡ Some n → from + n ≤ have
+    taken_here e = omega (arith, run.taken, taken_is e, taken_within s (take (have - from) (drop from input)), here_length)
+
+    pub more_taken : {n : ℕ} → r.taken ≡ Some n → 2 ≤ n
+    more_taken e = omega (arith, taken_is e, taken_some s (take (have - from) (drop from input)) (going_on e))
 
     pub within_then : r.end ≤ length out₀
     within_then = omega (arith, line_within, run.same)
@@ -163,10 +159,10 @@ module _ (input out₀ : List ℕ) (have from₀ end₀ : ℕ) (over : Bool) (s�
     pub collected_then : take end₀ out' ≡ take end₀ out₀
     collected_then = put_before st.line line_within end₀ run.later ∙ run.collected
 
-    pub run_step : r.going ≡ true → Run input out₀ have from₀ end₀ over s₀ (carried_of r.state) (from + r.taken) r.end out'
-    run_step g = record {
+    pub run_step : {n : ℕ} → r.taken ≡ Some n → Run input out₀ have from₀ end₀ over s₀ (carried_of r.state) (from + n) r.end out'
+    run_step {n} e = record {
       within = run.within;
-      taken = taken_here;
+      taken = taken_here e;
       room = within_then;
       later = omega (arith, run.later, st.line.ends);
       same = ap length st.line.holds ∙ length-sets out end (step s (take (have - from) (drop from input))).line ∙ run.same;
@@ -174,11 +170,11 @@ module _ (input out₀ : List ℕ) (have from₀ end₀ : ℕ) (over : Bool) (s�
       prints = λ more lines z p.
           rw (output, append_assoc)
           (run.prints more ((step s (take (have - from) (drop from input))).line ++ lines) z
-          (prints_more (take (have - from) (drop from input)) more over w' z s lines (sym st.going ∙ g)
-          (rw (← st.carried, ← st.taken, waiting_after input have from r.taken taken_here run.within) p)));
+          (prints_more (take (have - from) (drop from input)) more over w' z s lines (going_on e)
+          (rw (← st.carried, ← taken_is e, waiting_after input have from n (taken_here e) run.within) p)));
     }
 
-    pub run_stop : r.going ≡ false → (more : List ℕ) → (over ≡ true → more ≡ [])
+    pub run_stop : is_some r.taken ≡ false → (more : List ℕ) → (over ≡ true → more ≡ [])
         → Prints s₀ (take (have - from₀) (drop from₀ input) ++ more) (drop end₀ (take r.end out') ++ [])
     run_stop g more z =
         rw (output, append-nil)

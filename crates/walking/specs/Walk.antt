@@ -10,9 +10,8 @@ use Rattle.origin.specs.Burst.{step_numbered}
 use Rattle.origin.specs.Send.{send_refusal, send_written, send_sseq}
 use Rattle.origin.specs.declared.Step.{Step}
 use Rattle.playout.specs.Play.{fresh_record}
-use Rattle.endpoint.specs.Arrival.{arrival_of}
+use Rattle.endpoint.specs.Arrival.{Moved, arrival_of}
 use Rattle.playout.specs.declared.Endpoint.{Endpoint}
-use Rattle.endpoint.specs.declared.Arrived.{Arrived}
 use Rattle.walking.specs.Text.{line, stop_line}
 
 -- carried on: how many records there were, SSEQ, the endpoint's record, and the frame made last
@@ -83,7 +82,7 @@ unfoldable pub by_node : Carried → List ℕ → Outcome
 by_node s r = made s 2 s.sseq (forwarding forward_refusal s r room) (forwarding onward s r)
 
 -- kind 3: play clock. Due and blocks dropped come last
-abbrev pub arriving : Carried → List ℕ → Arrived
+abbrev pub arriving : Carried → List ℕ → Moved
 arriving s r = arrival_of s.endpoint s.frame (four 5 r)
 
 unfoldable pub by_endpoint : Carried → List ℕ → Outcome

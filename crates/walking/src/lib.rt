@@ -1,34 +1,96 @@
 // The program `walk` on slices: a record's step, the line it prints, and the stream of records.
 #![tactic(auto)]
 
-ghost use Rattle.std.specs.Prelude.{◌≡◌, ℕ, ◌+◌, ◌-◌, ◌*◌, ◌^◌, ◌≤◌, ◌<◌, List, [], ◌∷◌, ◌++◌, length, take, drop, true, false};
-ghost use Rattle.onward.specs.Sent.{sent_answer, sent_buffer};
+ghost use Rattle.std.specs.Prelude.{◌≡◌, ℕ, ◌+◌, ◌*◌, ◌^◌, ◌≤◌, ◌<◌, List, length};
+ghost use Rattle.octets.specs.Octets.{octet};
+ghost use Rattle.refusals.specs.Refusals.{number as refusal_number};
+ghost use Rattle.onward.specs.Sent.{sent_paper, sent_answer, sent_buffer};
 ghost use Rattle.walking.specs.Text.{digits, number, after_number, line, stop_line, Put};
-ghost use Rattle.walking.specs.Walk.{at_first, four, allowed, legal, told, made, by_origin, by_node, by_endpoint, outcome, counted, step};
-ghost use Rattle.walking.specs.Held.{carried_of, told_of, SevenAtMost, outcome_of, Stepping};
+ghost use Rattle.walking.specs.Walk.{at_first, four, allowed, legal, told, made, by_origin, by_node, by_endpoint, outcome, step};
+ghost use Rattle.walking.specs.Held.{KindOf, kind_number, frame_of, carried_of, told_of, outcome_of, Stepping};
 ghost use Rattle.walking.specs.Stream.{ready, Passed, Filled, Flushed};
 
+use coding::Coding;
 use octets::two_octets;
-use onward::Sent;
-use origin::Step;
+use onward::Hop;
+use origin::{Packet, Step};
 use playout::Endpoint;
+use refusals::Refusal;
 use std::io::{Read, Write};
 
-// What is carried on from record to record. A voice frame has at most 138 octets; length says how many of frame are it.
+// What a record asks for, by its number.
+#[derive(Clone, Copy)]
+enum Kind {
+    Origin = 1,
+    Node = 2,
+    Arrival = 3,
+}
+
+impl TryFrom<usize> for Kind {
+    type Error = usize;
+
+    ghost try_from_gives = { KindOf };
+
+    fn try_from(number: usize) -> Result<Self, usize> {
+        match number {
+            1 => Ok(Kind::Origin),
+            2 => Ok(Kind::Node),
+            3 => Ok(Kind::Arrival),
+            _ => Err(number),
+        }
+    }
+}
+
+impl Kind {
+    fn number(self) -> u64
+        ensures { result ≡ kind_number self }
+    {
+        self as u64
+    }
+}
+
+// The frame made last, of which a voice frame has at most 138 octets: `length` says how many of the buffer are it. There is no heap to hold it.
+#[derive(Clone, Copy)]
+struct Frame {
+    length: usize,
+    buffer: [u8; 138],
+}
+
+impl Frame {
+    fn octets(&self) -> &[u8]
+        ensures { result.now ≡ frame_of self.now }
+    {
+        &self.buffer[..self.length.min(138)]
+    }
+}
+
+// What is carried on from record to record.
 #[derive(Clone, Copy)]
 struct State {
     number: u64,
     sseq: u8,
     endpoint: Endpoint,
-    length: usize,
-    frame: [u8; 138],
+    frame: Frame,
 }
 
-// The numbers of a line: the first count of numbers.
+// The numbers of a line, by what became of its record.
 #[derive(Clone, Copy)]
-struct Told {
-    count: usize,
-    numbers: [u64; 7],
+enum Told {
+    Refused([u64; 3]),
+    Written([u64; 6]),
+    Arrived([u64; 7]),
+}
+
+impl Told {
+    fn numbers(&self) -> &[u64]
+        ensures { (result.now ≡ told_of self.now) × (length result.now ≤ 7) }
+    {
+        match self {
+            Told::Refused(numbers) => numbers,
+            Told::Written(numbers) => numbers,
+            Told::Arrived(numbers) => numbers,
+        }
+    }
 }
 
 #[derive(Clone, Copy)]
@@ -37,13 +99,12 @@ struct Outcome {
     told: Told,
 }
 
-// What a step leaves: how many octets of the input it took, where its line ends, and whether the walk goes on.
+// What a step leaves: how many octets of the input its record took, none where the walk stops, and where its line ends.
 #[derive(Clone, Copy)]
 struct Stepped {
     state: State,
-    taken: usize,
+    taken: Option<usize>,
     end: usize,
-    going: bool,
 }
 
 fn at_first() -> State
@@ -53,12 +114,15 @@ fn at_first() -> State
         number: 0,
         sseq: 0,
         endpoint: endpoint::fresh(100),
-        length: 0,
-        frame: [0; 138],
+        frame: Frame {
+            length: 0,
+            buffer: [0; 138],
+        },
     }
 }
 
-// Answers where the next octet goes, as each function here does that puts text.
+// Answers where the next octet goes, as each function here does that puts text. A struct of buffer and place would be no plainer: `pass` keeps the
+// place in its Flow, and lends the buffer anew for each step.
 fn put_digits(places: usize, n: u64, out: &mut [u8], at: usize) -> usize
     requires { at + places ≤ length out.old }
     ensures { Put (digits places n) places at result out.old out.new }
@@ -67,11 +131,11 @@ fn put_digits(places: usize, n: u64, out: &mut [u8], at: usize) -> usize
         return at;
     }
     if n < 10 {
-        out[at] = 48 + n as u8;
+        out[at] = b'0' + n as u8;
         return at + 1;
     }
     let end = put_digits(places - 1, n / 10, out, at);
-    out[end] = 48 + (n % 10) as u8;
+    out[end] = b'0' + (n % 10) as u8;
     end + 1
 }
 
@@ -87,20 +151,17 @@ fn put_number(n: u64, after: u8, out: &mut [u8], at: usize) -> usize
 fn after_number(left: usize) -> u8
     ensures { result ≡ after_number left }
 {
-    if left == 0 { 10 } else { 32 }
+    if left == 0 { b'\n' } else { b' ' }
 }
 
 fn put_line(numbers: &[u64], out: &mut [u8], at: usize) -> usize
     requires { at + 21 * length numbers.now ≤ length out.old }
     ensures { Put (line numbers.now) (21 * length numbers.now) at result out.old out.new }
 {
-    let n = numbers.len();
     let mut end = at;
-    let mut i: usize = 0;
-    while i < n {
-        let after = after_number(n - 1 - i);
-        end = put_number(numbers[i], after, out, end);
-        i += 1;
+    for (i, number) in numbers.iter().enumerate() {
+        let after = after_number(numbers.len() - 1 - i);
+        end = put_number(*number, after, out, end);
     }
     end
 }
@@ -109,15 +170,20 @@ fn put_stop(n: u64, out: &mut [u8], at: usize) -> usize
     requires { at + 26 ≤ length out.old }
     ensures { Put (stop_line n) 26 at result out.old out.new }
 {
-    let end = put_number(n, 32, out, at);
-    out[end] = 115;
-    out[end + 1] = 116;
-    out[end + 2] = 111;
-    out[end + 3] = 112;
-    out[end + 4] = 10;
+    let end = put_number(n, b' ', out, at);
+    out[end..end + 5].copy_from_slice(b"stop\n");
     end + 5
 }
 
+// The octet at n, counted from 0; 0 past the end.
+fn octet(rest: &[u8], n: usize) -> u8
+    requires { n < 1024 }
+    ensures { result ≡ octet (n + 1) rest.now }
+{
+    rest.get(n).copied().unwrap_or(0)
+}
+
+// The sum has 32 bits, and From makes no u32 of a usize.
 fn four_octets(rest: &[u8], n: usize) -> u32
     requires { n < 1024 }
     ensures { result ≡ four n rest.now }
@@ -125,175 +191,145 @@ fn four_octets(rest: &[u8], n: usize) -> u32
     (two_octets(rest, n) + 65536 * two_octets(rest, n + 2)) as u32
 }
 
-fn allowed(kind: usize, n: usize, step: usize) -> bool
-    ensures { result ≡ allowed kind n step }
+#[tactic(auto, unfolding(crate::specs::Walk::allowed))]
+fn allowed(kind: Kind, n: usize, step: u8) -> bool
+    ensures { result ≡ allowed (kind_number kind) n step }
 {
-    (kind == 1) & (10 <= n) & (n <= 1024) & (step < 3)
-        | (kind == 2) & (n == 7)
-        | (kind == 3) & (n == 6)
+    match kind {
+        Kind::Origin => 10 <= n && n <= 1024 && step < 3,
+        Kind::Node => n == 7,
+        Kind::Arrival => n == 6,
+    }
 }
 
+#[tactic(auto, unfolding(crate::specs::Walk::legal, crate::specs::Walk::allowed))]
 fn legal(rest: &[u8]) -> bool
     ensures { result ≡ legal rest.now }
 {
     let n = two_octets(rest, 1);
-    allowed(two_octets(rest, 3), n, octets::at(rest, 4)) & (2 + n <= rest.len())
+    match Kind::try_from(two_octets(rest, 3)) {
+        Ok(kind) => allowed(kind, n, octet(rest, 4)) && 2 + n <= rest.len(),
+        Err(_) => false,
+    }
 }
 
-// The numbers of a line: the first three where the record is refused, else the first `done`, which is 6 or 7.
-fn tell(
-    number: u64,
-    kind: u64,
-    refusal: u8,
-    frame: &[u8],
-    sixth: u64,
-    seventh: u64,
-    done: usize,
-) -> Told
-    requires { (6 ≤ done) × (done ≤ 7) }
-    ensures { (told_of result ≡ told number kind refusal frame.now (take (done - 5) (sixth ∷ seventh ∷ []))) × SevenAtMost result }
+#[tactic(auto, using(refusals::proofs::RefusalLaws::judged), unfolding(crate::specs::Walk::told))]
+fn refused(number: u64, kind: Kind, refusal: Refusal) -> Told
+    ensures { (frame last : List ℕ) → told_of result ≡ told number (kind_number kind) (refusal_number refusal) frame last }
 {
-    let count = octets::pick(refusal == 0, done, 3);
-    let numbers = [
-        number,
-        kind,
-        refusal as u64,
-        frame.len() as u64,
-        frame::stamp_of(frame) as u64,
-        sixth,
-        seventh,
-    ];
-    Told { count, numbers }
+    Told::Refused([number, kind.number(), u64::from(refusal.number())])
 }
 
-// What follows a call that wrote a frame, or refused to: `frame` is the buffer that it left.
-fn made(state: State, kind: u64, sseq: u8, sent: Sent, frame: [u8; 138]) -> Outcome
-    ensures { ((refusal : ℕ) (written : List ℕ) → sent ≡ sent_answer refusal written → frame ≡ sent_buffer refusal written state.frame → outcome_of result ≡ made (carried_of state) kind sseq refusal written) × SevenAtMost result.told }
+// What follows a call that wrote a frame, or refused to: `buffer` is what it left. Here and below From makes no u64 of a usize.
+fn made(
+    state: State,
+    kind: Kind,
+    sseq: u8,
+    sent: Result<usize, Refusal>,
+    buffer: [u8; 138],
+) -> Outcome
+    ensures { (refusal : ℕ) (written : List ℕ) → sent_paper sent ≡ sent_answer refusal written → buffer ≡ sent_buffer refusal written state.frame.buffer → outcome_of result ≡ made (carried_of state) (kind_number kind) sseq refusal written }
 {
-    let refusal = sent.refusal;
-    let length = octets::pick(refusal == 0, sent.length, state.length);
-    let n = octets::lesser(length, 138);
-    let c = frame::field_c(&frame[..n]) as u64;
-    let told = tell(state.number, kind, refusal, &frame[..n], c, 0, 6);
-    let endpoint = state.endpoint;
+    let number = state.number;
+    let (frame, told) = match sent {
+        Ok(length) => {
+            let frame = Frame { length, buffer };
+            let written = frame.octets();
+            let told = Told::Written([
+                number,
+                kind.number(),
+                0,
+                written.len() as u64,
+                u64::from(frame::stamp_of(written)),
+                frame::field_c(written) as u64,
+            ]);
+            (frame, told)
+        }
+        Err(refusal) => (state.frame, refused(number, kind, refusal)),
+    };
     Outcome {
         state: State {
-            number: state.number,
             sseq,
-            endpoint,
-            length,
             frame,
+            ..state
         },
         told,
     }
 }
 
-// The frame's buffer as it is, and that it has room for 138 octets, which a field's type does not tell a proof.
-fn sized(frame: [u8; 138]) -> [u8; 138]
-    ensures { (result ≡ frame) × (length result ≡ 138) }
-{
-    frame
-}
-
-// Each kind's function is handed the whole record, from its length on.
+// Each kind's function is handed the whole record, from its length on. An octet that the record has no more is 0.
 fn by_origin(state: State, whole: &[u8]) -> Outcome
-    ensures { (outcome_of result ≡ by_origin (carried_of state) whole.now) × SevenAtMost result.told }
+    ensures { outcome_of result ≡ by_origin (carried_of state) whole.now }
 {
-    let step = origin::step_numbered(octets::at(whole, 4));
-    let coding = octets::at(whole, 5) as u8;
-    let noise = octets::at(whole, 6) as u8;
-    let level = octets::at(whole, 7) as u8;
-    let wait = four_octets(whole, 9);
-    let samples = octets::lesser(12, whole.len());
+    let packet = Packet {
+        step: Step::try_from(octet(whole, 4)).unwrap_or(Step::Stop),
+        coding: Coding(octet(whole, 5)),
+        noise: octet(whole, 6),
+    };
+    let hop = Hop {
+        level: octet(whole, 7),
+        from: 0,
+        to: four_octets(whole, 9),
+        address: 128,
+    };
+    let samples = whole.len().min(12);
     let mut sseq = state.sseq;
-    let last = state.frame;
-    let mut frame = sized(last);
-    let sent = origin::send(
-        &mut sseq,
-        step,
-        coding,
-        noise,
-        &whole[samples..],
-        level,
-        0,
-        wait,
-        128,
-        &mut frame,
-    );
-    made(state, 1, sseq, sent, frame)
+    let mut buffer = state.frame.buffer;
+    let sent = origin::send(&mut sseq, packet, &whole[samples..], hop, &mut buffer);
+    made(state, Kind::Origin, sseq, sent, buffer)
 }
 
 fn by_node(state: State, whole: &[u8]) -> Outcome
-    ensures { (outcome_of result ≡ by_node (carried_of state) whole.now) × SevenAtMost result.told }
+    ensures { outcome_of result ≡ by_node (carried_of state) whole.now }
 {
-    let level = octets::at(whole, 4) as u8;
-    let wait = four_octets(whole, 6);
-    let n = octets::lesser(state.length, 138);
-    let before = state.frame;
-    let last = sized(before);
-    let mut frame = last;
-    let sent = node::forward(&last[..n], level, 0, wait, 128, &mut frame);
-    made(state, 2, state.sseq, sent, frame)
+    let hop = Hop {
+        level: octet(whole, 4),
+        from: 0,
+        to: four_octets(whole, 6),
+        address: 128,
+    };
+    let mut buffer = state.frame.buffer;
+    let sent = node::forward(state.frame.octets(), hop, &mut buffer);
+    made(state, Kind::Node, state.sseq, sent, buffer)
 }
 
 fn by_endpoint(state: State, whole: &[u8]) -> Outcome
-    ensures { (outcome_of result ≡ by_endpoint (carried_of state) whole.now) × SevenAtMost result.told }
+    ensures { outcome_of result ≡ by_endpoint (carried_of state) whole.now }
 {
-    let clock = four_octets(whole, 5) as u64;
-    let n = octets::lesser(state.length, 138);
-    let last = state.frame;
-    let frame = sized(last);
-    let held = state.endpoint;
-    let arrived = endpoint::arrive_value(held, &frame[..n], clock);
-    let answer = arrived.answer;
-    let after = arrived.after;
-    let told = tell(
-        state.number,
-        3,
-        answer.refusal,
-        &frame[..n],
-        answer.due,
-        answer.dropped as u64,
-        7,
-    );
+    let number = state.number;
+    let frame = state.frame.octets();
+    let clock = u64::from(four_octets(whole, 5));
+    let arrived = endpoint::arrive_value(state.endpoint, frame, clock);
+    let told = match arrived.answer {
+        Ok(arrival) => Told::Arrived([
+            number,
+            Kind::Arrival.number(),
+            0,
+            frame.len() as u64,
+            u64::from(frame::stamp_of(frame)),
+            arrival.due,
+            u64::from(arrival.dropped),
+        ]),
+        Err(refusal) => refused(number, Kind::Arrival, refusal),
+    };
     Outcome {
         state: State {
-            number: state.number,
-            sseq: state.sseq,
-            endpoint: after,
-            length: state.length,
-            frame,
+            endpoint: arrived.after,
+            ..state
         },
         told,
     }
 }
 
+// `step` has judged that the kind is one of the three.
+#[tactic(auto, unfolding(crate::specs::Walk::outcome))]
 fn take_record(state: State, whole: &[u8]) -> Outcome
-    ensures { (outcome_of result ≡ outcome (carried_of state) whole.now) × SevenAtMost result.told }
+    ensures { outcome_of result ≡ outcome (carried_of state) whole.now }
 {
-    let kind = two_octets(whole, 3);
-    if kind == 1 {
-        return by_origin(state, whole);
-    }
-    if kind == 2 {
-        by_node(state, whole)
-    } else {
-        by_endpoint(state, whole)
-    }
-}
-
-fn with_number(state: State, number: u64) -> State
-    requires { number ≡ state.number + 1 }
-    ensures { carried_of result ≡ counted (carried_of state) }
-{
-    let endpoint = state.endpoint;
-    let frame = state.frame;
-    State {
-        number,
-        sseq: state.sseq,
-        endpoint,
-        length: state.length,
-        frame,
+    match Kind::try_from(two_octets(whole, 3)) {
+        Ok(Kind::Origin) => by_origin(state, whole),
+        Ok(Kind::Node) => by_node(state, whole),
+        _ => by_endpoint(state, whole),
     }
 }
 
@@ -307,23 +343,17 @@ fn step(state: State, rest: &[u8], out: &mut [u8], at: usize) -> Stepped
         let end = put_stop(number, out, at);
         return Stepped {
             state,
-            taken: 0,
+            taken: None,
             end,
-            going: false,
         };
     }
     let taken = 2 + two_octets(rest, 1);
-    let outcome = take_record(with_number(state, number), &rest[..taken]);
-    let told = outcome.told;
-    let count = told.count;
-    let numbers = told.numbers;
-    let end = put_line(&numbers[..count], out, at);
-    let next = outcome.state;
+    let outcome = take_record(State { number, ..state }, &rest[..taken]);
+    let end = put_line(outcome.told.numbers(), out, at);
     Stepped {
-        state: next,
-        taken,
+        state: outcome.state,
+        taken: Some(taken),
         end,
-        going: true,
     }
 }
 
@@ -341,10 +371,10 @@ struct Flow {
 fn ready(number: u64, left: usize, room: usize, ended: bool) -> bool
     ensures { result ≡ ready number left room ended }
 {
-    (number < 18446744073709551615) & (147 <= room) & ((1026 <= left) | ended & (0 < left))
+    number < u64::MAX && 147 <= room && (1026 <= left || ended && 0 < left)
 }
 
-// Steps, as long as the next record is in the buffer and its line has room.
+// Steps, as long as the next record is in the buffer and its line has room. A record says how many octets it has, so there is no range to go through.
 fn pass(flow: Flow, input: &[u8], out: &mut [u8]) -> Flow
     requires { (flow.from ≤ flow.have) × (flow.have ≤ length input.now) × (flow.end ≤ length out.old) }
     ensures { Passed flow input.now out.old out.new result }
@@ -357,41 +387,25 @@ fn pass(flow: Flow, input: &[u8], out: &mut [u8]) -> Flow
     let mut end = flow.end;
     while ready(state.number, have - from, room - end, ended) {
         let stepped = step(state, &input[from..have], out, end);
-        let next = stepped.state;
-        state = next;
-        from = from + stepped.taken;
+        state = stepped.state;
         end = stepped.end;
-        if !stepped.going {
+        let Some(taken) = stepped.taken else {
             return Flow {
                 state,
                 from,
-                have,
                 end,
-                ended,
                 going: false,
+                ..flow
             };
-        }
+        };
+        from += taken;
     }
     Flow {
         state,
         from,
-        have,
         end,
-        ended,
         going: !ended | (from < have),
-    }
-}
-
-// Octets from..to of the buffer, to its front.
-fn move_front(buffer: &mut [u8], from: usize, to: usize)
-    requires { (from ≤ to) × (to ≤ length buffer.old) }
-    ensures { buffer.new ≡ take (to - from) (drop from buffer.old) ++ drop (to - from) buffer.old }
-{
-    let n = to - from;
-    let mut i: usize = 0;
-    while i < n {
-        buffer[i] = buffer[from + i];
-        i += 1;
+        ..flow
     }
 }
 
@@ -405,17 +419,14 @@ fn fill<R: Read>(input: &mut R, flow: Flow, buffer: &mut [u8]) -> Flow
     if flow.ended | (1026 <= have - from) {
         return flow;
     }
-    move_front(buffer, from, have);
+    buffer.copy_within(from..have, 0);
     let left = have - from;
     let more = input.read(&mut buffer[left..]).unwrap_or(0);
-    let state = flow.state;
     Flow {
-        state,
         from: 0,
         have: left + more,
-        end: flow.end,
         ended: more == 0,
-        going: flow.going,
+        ..flow
     }
 }
 
@@ -429,17 +440,14 @@ fn flush<W: Write>(output: &mut W, flow: Flow, out: &[u8]) -> Flow
         return flow;
     }
     let written = output.write_all(&out[..end]).is_ok();
-    let state = flow.state;
     Flow {
-        state,
-        from: flow.from,
-        have: flow.have,
         end: 0,
-        ended: flow.ended,
-        going: flow.going & written,
+        going: flow.going && written,
+        ..flow
     }
 }
 
+// The turns are counted, for a reader need not come to an end.
 fn stream<R: Read, W: Write>(input: &mut R, output: &mut W, buffer: &mut [u8], out: &mut [u8]) {
     let mut flow = Flow {
         state: at_first(),
@@ -449,12 +457,13 @@ fn stream<R: Read, W: Write>(input: &mut R, output: &mut W, buffer: &mut [u8], o
         ended: false,
         going: true,
     };
-    let mut turns = 18446744073709551615u64;
-    while (0 < turns) & flow.going {
+    for _ in 0..u64::MAX {
+        if !flow.going {
+            break;
+        }
         let filled = fill(input, flow, buffer);
         let passed = pass(filled, buffer, out);
         flow = flush(output, passed, out);
-        turns -= 1;
     }
 }
 

@@ -1,6 +1,6 @@
 -- Request A4 joined to the layers above: voice frames that origins make, sent over a line and heard at its other end.
 use Rattle.std.specs.Prelude.{ℕ, ◌+◌, List, [], map, length}
-use Rattle.endpoint.specs.declared.Heard.{Heard}
+use Rattle.endpoint.specs.Read.{Heard}
 use Rattle.endpoint.specs.Read.{read_answer}
 use Rattle.chain.specs.Chain.{Origin, sent, what_is_heard}
 use Rattle.wire.specs.Wire.{buffer_after, count_after, Call, calls}

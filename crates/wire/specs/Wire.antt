@@ -3,8 +3,7 @@ use Rattle.std.specs.Prelude.{ℕ, zero, suc, ◌+◌, ◌*◌, ◌≤◌, ◌<�
 use Rattle.refusals.specs.Refusals.{refusal1}
 use Rattle.bits.specs.Bits.{bits}
 use Rattle.line.specs.Line.{put}
-use Rattle.line.specs.Calls.{over, add_answer, add_line, next_answer, next_out}
-use Rattle.line.specs.declared.TakenOff.{TakenOff}
+use Rattle.line.specs.Calls.{TakenOff, over, add_answer, add_line, next_answer, next_out}
 
 -- it holds of each of a list
 abbrev pub Each : {A : Type 0} → (A → Type 0) → List A → Type 0
