@@ -2,16 +2,17 @@
 #![tactic(auto)]
 
 ghost use Rattle.std.specs.Prelude.{◌≡◌, length};
-ghost use Rattle.refusals.specs.Refusals.{◌or_else◌};
+ghost use Rattle.refusals.specs.Refusals.{◌or_else◌, refusal_of, refusal16};
 ghost use Rattle.card.specs.Card.{short, short_two, written};
 ghost use Rattle.card_record.specs.Record.{arrival_numbers, record_refusal};
 ghost use Rattle.card_arrival.specs.Kept.{kept_arrival, kept_after};
 
 use card::short_two;
 use card_record::{arrival, no_record};
-use refusals::{or_else, refusal_16};
+use refusals::{Refusal, refusal_16};
 
 // The arrival on a record that is lent and moved on in place.
+#[tactic(auto, using(refusals::proofs::RefusalLaws::judged), unfolding(card::specs::Card::written, crate::specs::Kept::kept_arrival, crate::specs::Kept::kept_after))]
 #[unsafe(no_mangle)]
 pub extern "C" fn pelgrant_arrive(
     kept: &mut [u64],
@@ -25,20 +26,26 @@ pub extern "C" fn pelgrant_arrive(
     ensures samples { samples.new ≡ written (short_two 5 answer.old 128 samples.old) (kept_arrival kept.old frame.now clock).samples samples.old }
     ensures kept { kept.new ≡ written (short_two 5 answer.old 128 samples.old or_else record_refusal (length kept.old)) (kept_after kept.old frame.now clock) kept.old }
 {
-    let flat = short_two(answer.len(), 5, samples.len(), 128);
-    if flat != 0 {
-        return flat;
+    if let Err(flat) = short_two(answer.len(), 5, samples.len(), 128) {
+        return flat.number();
     }
-    if kept.len() != 9 {
-        return no_record(frame, answer, samples);
+    match <[u64; 9]>::try_from(&*kept) {
+        Ok(numbers) => arrival(numbers, frame, clock, kept, answer, samples),
+        Err(_) => no_record(frame, answer, samples),
     }
-    arrival(
-        kept[0], kept[1], kept[2], kept[3], kept[4], kept[5], kept[6], kept[7], kept[8], frame,
-        clock, kept, answer, samples,
-    )
+}
+
+// One of the three slices that are written is too short.
+#[tactic(auto, using(refusals::proofs::RefusalLaws::judged))]
+fn short_three(after: usize, answer: usize, samples: usize) -> Result<(), Refusal>
+    ensures { refusal_of result ≡ refusal16 after 9 or_else refusal16 answer 5 or_else refusal16 samples 128 }
+{
+    refusal_16(after, 9)?;
+    short_two(answer, 5, samples, 128)
 }
 
 // The arrival on a record that is only read.
+#[tactic(auto, using(refusals::proofs::RefusalLaws::judged), unfolding(card::specs::Card::written, crate::specs::Kept::kept_arrival, crate::specs::Kept::kept_after))]
 #[unsafe(no_mangle)]
 pub extern "C" fn pelgrant_arrive_value(
     kept: &[u64],
@@ -53,16 +60,11 @@ pub extern "C" fn pelgrant_arrive_value(
     ensures samples { samples.new ≡ written (short 9 after.old or_else short_two 5 answer.old 128 samples.old) (kept_arrival kept.now frame.now clock).samples samples.old }
     ensures after { after.new ≡ written ((short 9 after.old or_else short_two 5 answer.old 128 samples.old) or_else record_refusal (length kept.now)) (kept_after kept.now frame.now clock) after.old }
 {
-    let others = short_two(answer.len(), 5, samples.len(), 128);
-    let flat = or_else(refusal_16(after.len(), 9), others);
-    if flat != 0 {
-        return flat;
+    if let Err(flat) = short_three(after.len(), answer.len(), samples.len()) {
+        return flat.number();
     }
-    if kept.len() != 9 {
-        return no_record(frame, answer, samples);
+    match <[u64; 9]>::try_from(kept) {
+        Ok(numbers) => arrival(numbers, frame, clock, after, answer, samples),
+        Err(_) => no_record(frame, answer, samples),
     }
-    arrival(
-        kept[0], kept[1], kept[2], kept[3], kept[4], kept[5], kept[6], kept[7], kept[8], frame,
-        clock, after, answer, samples,
-    )
 }

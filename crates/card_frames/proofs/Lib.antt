@@ -1,2 +1,1 @@
-pub mod FramesLaws
 pub mod OneOutcome

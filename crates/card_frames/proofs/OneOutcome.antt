@@ -4,7 +4,7 @@ use mathlib.Core.List.{List}
 use lib.ListN.{length}
 use Rattle.refusals.specs.Refusals.{if_taken}
 use Rattle.frame.specs.Calls.{link_answer, taken_answer}
-use Rattle.onward.specs.declared.Sent.{Sent}
+use Rattle.onward.specs.Sent.{Sent}
 use Rattle.node.specs.Node.{forward_answer, forward_buffer}
 use Rattle.origin.specs.Signal.{signal_answer as signalSent, signal_buffer}
 use Rattle.card.specs.Card.{short}

@@ -1,9 +1,8 @@
 -- Document 01's calls of origin and node as a host makes them, on numbers and on slices that it lends.
 use Rattle.std.specs.Prelude.{ℕ, List, [], ◌∷◌, ltb}
 use Rattle.refusals.specs.Refusals.{if_taken, refuse}
-use Rattle.frame.specs.declared.LinkFacts.{LinkFacts}
-use Rattle.frame.specs.declared.TakenFacts.{TakenFacts}
-use Rattle.onward.specs.declared.Sent.{Sent}
+use Rattle.frame.specs.Calls.{Link, Taken}
+use Rattle.onward.specs.Sent.{Sent}
 use Rattle.origin.specs.Burst.{step_numbered}
 use Rattle.origin.specs.Send.{send_answer, send_buffer, send_sseq}
 use Rattle.card.specs.Card.{flag}
@@ -12,10 +11,10 @@ use Rattle.card.specs.Card.{flag}
 abbrev pub sent_numbers : Sent → List ℕ
 sent_numbers a = a.length ∷ []
 
-abbrev pub link_numbers : LinkFacts → List ℕ
+abbrev pub link_numbers : Link → List ℕ
 link_numbers a = flag a.voice ∷ a.address ∷ []
 
-abbrev pub taken_numbers : TakenFacts → List ℕ
+abbrev pub taken_numbers : Taken → List ℕ
 taken_numbers a = flag a.voice ∷ a.length ∷ a.c ∷ []
 
 -- a step that is none

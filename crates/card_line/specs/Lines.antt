@@ -1,7 +1,6 @@
 -- Request A4's calls as a host makes them, on numbers and on slices that it lends.
 use Rattle.std.specs.Prelude.{ℕ, List, [], ◌∷◌}
-use Rattle.line.specs.declared.Added.{Added}
-use Rattle.line.specs.declared.TakenOff.{TakenOff}
+use Rattle.line.specs.Calls.{Added, TakenOff}
 use Rattle.card.specs.Card.{flag}
 
 -- the answers as numbers, in their order

@@ -7,10 +7,11 @@ ghost use Rattle.line.specs.Calls.{add_answer, add_line, next_answer, next_out};
 ghost use Rattle.card.specs.Card.{short, written};
 ghost use Rattle.card_line.specs.Lines.{added_numbers, taken_off_numbers};
 
-use card::{flag, put};
-use refusals::refusal_16;
+use card::put;
+use refusals::{number_of, refusal_16};
 
 // A frame is put on the line.
+#[tactic(auto, using(refusals::proofs::RefusalLaws::judged), unfolding(card::specs::Card::written))]
 #[unsafe(no_mangle)]
 pub extern "C" fn pelgrant_line_add(
     line: &mut [u8],
@@ -22,17 +23,17 @@ pub extern "C" fn pelgrant_line_add(
     ensures answer { answer.new ≡ written (short 1 answer.old) (added_numbers (add_answer line.old count frame.now)) answer.old }
     ensures line { line.new ≡ if_taken (short 1 answer.old) (add_line line.old count frame.now) line.old }
 {
-    let flat = refusal_16(answer.len(), 1);
-    if flat != 0 {
-        return flat;
+    if let Err(flat) = refusal_16(answer.len(), 1) {
+        return flat.number();
     }
-    let a = line::add(line, count, frame);
-    let numbers = [a.count as u64];
-    put(&numbers, answer);
-    a.refusal
+    let added = line::add(line, count, frame);
+    let after = added.unwrap_or(0);
+    put(&[after as u64], answer);
+    number_of(&added)
 }
 
 // The next frame is taken off the line.
+#[tactic(auto, using(refusals::proofs::RefusalLaws::judged), unfolding(card::specs::Card::written))]
 #[unsafe(no_mangle)]
 pub extern "C" fn pelgrant_line_next(
     line: &[u8],
@@ -45,12 +46,17 @@ pub extern "C" fn pelgrant_line_next(
     ensures answer { answer.new ≡ written (short 3 answer.old) (taken_off_numbers (next_answer line.now count place (length out.old))) answer.old }
     ensures out { out.new ≡ if_taken (short 3 answer.old) (next_out line.now count place out.old) out.old }
 {
-    let flat = refusal_16(answer.len(), 3);
-    if flat != 0 {
-        return flat;
+    if let Err(flat) = refusal_16(answer.len(), 3) {
+        return flat.number();
     }
-    let a = line::next(line, count, place, out);
-    let numbers = [flag(a.found), a.length as u64, a.place as u64];
+    let (number, numbers) = match line::next(line, count, place, out) {
+        Ok(Some(found)) => (0, [1, found.length as u64, found.place as u64]),
+        Ok(None) => (0, [0; 3]),
+        Err(stopped) => (
+            stopped.refusal.number(),
+            [0, 0, stopped.place.unwrap_or(0) as u64],
+        ),
+    };
     put(&numbers, answer);
-    a.refusal
+    number
 }

@@ -2,9 +2,8 @@
 use Rattle.std.specs.Prelude.{ℕ, not, List, ◌∷◌, ◌++◌, eqb, length, take, drop, get_or}
 use Rattle.refusals.specs.Refusals.{◌or_else◌, refuse, if_taken}
 use Rattle.totals.specs.Totals.{any_above}
-use Rattle.room.specs.Rules.{freed_answer}
+use Rattle.room.specs.Rules.{GivenBack, freed_answer}
 use Rattle.room.specs.declared.Queue.{Queue}
-use Rattle.room.specs.declared.GivenBack.{GivenBack}
 
 -- a queue is 70 numbers: the first frame's place and slot, how many wait, 32 lengths, 32 clock readings, and the totals of levels 1, 2 and 3
 abbrev pub queue_numbers : Queue → List ℕ

@@ -2,81 +2,86 @@
 #![tactic(auto)]
 
 ghost use Rattle.std.specs.Prelude.{◌≡◌, [], ◌∷◌, length};
-ghost use Rattle.refusals.specs.Refusals.{◌or_else◌, if_taken};
+ghost use Rattle.refusals.specs.Refusals.{◌or_else◌};
+ghost use Rattle.totals.specs.Totals.{any_above};
+ghost use Rattle.room.specs.Rules.{freed_paper};
 ghost use Rattle.queue.specs.Calls.{fresh_queue};
 ghost use Rattle.card.specs.Card.{short, written};
-ghost use Rattle.card_queue.specs.Queues.{queue_numbers, size_refusal, kept_refusal, kept_freed};
-ghost use Rattle.card_queue.specs.Parts.{excess};
+ghost use Rattle.card_queue.specs.Queues.{queue_numbers, queue_of, size_refusal, kept_freed};
+ghost use Rattle.card_queue.specs.Parts.{Lent};
 
-use refusals::{refusal_16, refuse};
+use card::put;
+use refusals::{Refusal, number_of, refusal_16, refuse};
+use room::{Numbers, Outline};
 
-// An empty queue.
+// An empty queue. Here and in the question the number is C's: these are the exports, but for their archive.
+#[tactic(auto, using(refusals::proofs::RefusalLaws::judged), unfolding(card::specs::Card::written))]
 pub fn pelgrant_queue_fresh(kept: &mut [u32]) -> u8
     ensures number { result ≡ size_refusal (length kept.old) }
     ensures kept { kept.new ≡ written (size_refusal (length kept.old)) (queue_numbers fresh_queue) kept.old }
 {
-    let size = refuse(kept.len() != 70, 14);
-    if size != 0 {
-        return size;
+    if let Err(size) = refuse(kept.len() != 70, Refusal::Record) {
+        return size.number();
     }
-    let mut i: usize = 0;
-    while i < 70 {
-        kept[i] = 0;
-        i += 1;
-    }
-    size
+    kept.fill(0);
+    0
 }
 
-// By how many whole 256s the lengths pass an octet, together: 0 where none does.
-fn excess_of(lengths: &[u32]) -> u32
-    requires { length lengths.now ≡ 32 }
-    ensures { result ≡ excess lengths.now }
+// Whether a length fits no octet. All are looked at, and no branch depends on them.
+fn any_wide(lengths: &[u32]) -> bool
+    ensures { result ≡ any_above 255 lengths.now }
 {
-    let mut sum: u32 = 0;
-    let mut i: usize = 0;
-    while i < 32 {
-        sum += lengths[i] / 256;
-        i += 1;
+    let mut wide = false;
+    for length in lengths {
+        wide |= 255 < *length;
     }
-    sum
+    wide
 }
 
-// Judged before any number is taken for its field.
-pub fn kept_refusal(kept: &[u32]) -> u8
-    ensures { result ≡ kept_refusal kept.now }
+// A queue by its parts. It is judged before any number is taken for its field.
+#[tactic(auto, using(refusals::proofs::RefusalLaws::judged), unfolding(crate::specs::Queues::kept_refusal))]
+pub fn numbers(kept: &[u32]) -> Result<Numbers<'_>, Refusal>
+    ensures { Lent kept.now result }
 {
-    if kept.len() != 70 {
-        return 14;
-    }
-    refuse(excess_of(&kept[3..35]) != 0, 14)
+    refuse(kept.len() != 70, Refusal::Record)?;
+    let lengths = &kept[3..35];
+    refuse(any_wide(lengths), Refusal::Record)?;
+    Ok(Numbers {
+        outline: Outline {
+            head: kept[0],
+            first: kept[1],
+            count: kept[2],
+            totals: &kept[67..],
+        },
+        lengths,
+    })
 }
 
-// What only this form can get wrong of a call that answers one number: 16, and then nothing is touched; 14, with a zero for the answer.
-pub fn flat_refusal(kept: &[u32], answer: &mut [u64]) -> u8
-    ensures number { result ≡ short 1 answer.old or_else kept_refusal kept.now }
-    ensures answer { answer.new ≡ if_taken (kept_refusal kept.now) answer.old (written (short 1 answer.old) (0 ∷ []) answer.old) }
+// The clock readings of a queue that `numbers` has let by.
+pub fn readings(kept: &[u32]) -> &[u32]
+    requires { length kept.now ≡ 70 }
+    ensures { result.now ≡ (queue_of kept.now).clocks }
 {
-    let slots = refusal_16(answer.len(), 1);
-    if slots != 0 {
-        return slots;
-    }
-    let unfit = kept_refusal(kept);
-    if unfit != 0 {
-        answer[0] = 0;
-    }
-    unfit
+    &kept[35..67]
+}
+
+#[tactic(auto, using(refusals::proofs::RefusalLaws::judged), unfolding(crate::specs::Queues::kept_freed, room::specs::Rules::freed_paper))]
+fn freed(kept: &[u32], level: u8) -> Result<u32, Refusal>
+    ensures { freed_paper result ≡ kept_freed kept.now level }
+{
+    numbers(kept)?.outline.freed(level)
 }
 
 // What a level would give back.
+#[tactic(auto, using(refusals::proofs::RefusalLaws::judged), unfolding(card::specs::Card::written, room::specs::Rules::freed_paper))]
 pub fn pelgrant_queue_freed(kept: &[u32], level: u8, answer: &mut [u64]) -> u8
     ensures number { result ≡ short 1 answer.old or_else (kept_freed kept.now level).refusal }
     ensures answer { answer.new ≡ written (short 1 answer.old) ((kept_freed kept.now level).octets ∷ []) answer.old }
 {
-    let flat = flat_refusal(kept, answer);
-    if flat != 0 {
-        return flat;
+    if let Err(flat) = refusal_16(answer.len(), 1) {
+        return flat.number();
     }
-    let given = room::freed_by(kept[0], kept[1], kept[2], &kept[67..], level);
-    answer[0] = given.octets as u64;
-    given.refusal
+    let freed = freed(kept, level);
+    put(&[u64::from(freed.unwrap_or(0))], answer);
+    number_of(&freed)
 }

@@ -3,29 +3,27 @@ use Prim.Native.Nat.{ℕ, ◌≤◌}
 use mathlib.Core.Path.{◌≡◌, refl, sym, ap, subst, ◌∙◌}
 use mathlib.Core.Bool.{Bool, true, false, ◌||◌}
 use mathlib.Core.List.{List, [], ◌∷◌, ◌++◌}
-use native.Mathlib.Nat.{le_refl}
 use native.Mathlib.Omega.{arith}
 use lib.Dec.{ltb}
 use lib.ListN.{drop}
 use borrow.Author.Tests.{ltb-false, le-ltb}
 use Rattle.octets.proofs.BoolLaws.{or_false}
-use Rattle.refusals.specs.Refusals.{if_taken, refuse}
-use Rattle.endpoint.specs.Arrival.{frame_decision, reset_of, arrival_by, arrival_of}
-use Rattle.endpoint.specs.Outcome.{outcome_of}
+use Rattle.std.specs.Prelude.{Result, Ok, Err}
+use Rattle.refusals.specs.Refusals.{if_taken, refuse, refusal_of}
+use Rattle.refusals.specs.declared.Refusal.{Refusal}
+use Rattle.endpoint.specs.declared.Scheduled.{Scheduled}
+use Rattle.endpoint.specs.declared.Judged.{Judged}
+use Rattle.endpoint.specs.Arrival.{Moved, frame_decision, reset_of, arrival_by, arrival_of}
+use Rattle.endpoint.specs.Outcome.{Outcome, outcome_paper, outcome_of}
 use Rattle.playout.specs.Counts.{count_limit}
 use Rattle.playout.specs.Play.{record_bad, refusal14, play_refusal, decision}
 use Rattle.endpoint.specs.Read.{heard_of}
 use Rattle.playout.specs.declared.Endpoint.{Endpoint}
-use Rattle.endpoint.specs.declared.Outcome.{Outcome}
-use Rattle.endpoint.specs.declared.Arrived.{Arrived}
 use Rattle.playout.proofs.PlayLaws.{in_range}
 use Rattle.endpoint.proofs.ReadLaws.{heard_behind}
 use Rattle.card.specs.Card.{put}
-use Rattle.card.proofs.CardLaws.{sized, copied}
-use Rattle.card_record.specs.Record.{arrival_numbers, record_numbers, record_refusal, refused_arrival, count_unfit, numbers_arrival}
-
-pub nine_room : (n : ℕ) {r : ℕ} → r ≡ record_refusal n → r ≡ 0 → 9 ≤ n
-nine_room n e z = subst (λ (k : ℕ). 9 ≤ k) (sym (sized 9 n e z)) (le_refl 9)
+use Rattle.card.proofs.CardLaws.{copied}
+use Rattle.card_record.specs.Record.{arrival_numbers, record_numbers, refused_arrival, count_unfit, told_numbers, numbers_arrival}
 
 -- ---- numbers that fit no field
 
@@ -107,10 +105,16 @@ pub put_none : (f slot x : List ℕ) → x ≡ (heard_of 14 f).samples ++ drop 1
 unfolding put heard_of
 put_none f slot x e = e
 
+-- the number of what is judged
+pub outcome_number : (d : Result Scheduled Refusal) (l : Endpoint) → (outcome_paper (record { outcome = d; after = l })).refusal ≡ refusal_of d
+unfolding outcome_paper
+outcome_number (Ok a) l = refl
+outcome_number (Err r) l = refl
+
 -- ---- an arrival by its outcome: the number, the record, the answer and the samples
 
 module _ (e : Endpoint) (f : List ℕ) (clock : ℕ) (after answer samples : List ℕ) where
-  abbrev Arrives : Arrived → ℕ → List ℕ → List ℕ → List ℕ → Type 0
+  abbrev Arrives : Moved → ℕ → List ℕ → List ℕ → List ℕ → Type 0
   Arrives v k z x y =
       (k ≡ v.answer.refusal)
       × ((z ≡ put (record_numbers v.after) after) × ((x ≡ put (arrival_numbers v.answer) answer) × (y ≡ put v.answer.samples samples)))
@@ -118,20 +122,31 @@ module _ (e : Endpoint) (f : List ℕ) (clock : ℕ) (after answer samples : Lis
   pub by_unfit : unfit e ≡ true → (k : ℕ) (z x y : List ℕ)
       → k ≡ 14 → z ≡ put (record_numbers e) after → x ≡ put (arrival_numbers (refused_arrival 14)) answer → y ≡ put (refused_arrival 14).samples samples
       → Arrives (numbers_arrival e f clock) k z x y
-  by_unfit h k z x y n r p q = subst (λ (v : Arrived). Arrives v k z x y) (sym (unfit_is e f clock h)) (n, (r, (p, q)))
+  by_unfit h k z x y n r p q = subst (λ (v : Moved). Arrives v k z x y) (sym (unfit_is e f clock h)) (n, (r, (p, q)))
 
-  pub by_outcome : unfit e ≡ false → (o : Outcome) → o ≡ outcome_of (arrival_of e f clock) → (numbers z x y : List ℕ)
-      → numbers ≡ record_numbers o.after → z ≡ put numbers after → x ≡ put (o.due ∷ o.reset ∷ o.s ∷ o.dropped ∷ o.width ∷ []) answer → y ≡ (heard_of o.refusal f).samples ++ drop 128 samples
-      → Arrives (numbers_arrival e f clock) o.refusal z x y
+  by_outcome : unfit e ≡ false → (o : Outcome) → o ≡ outcome_of (arrival_of e f clock) → (k : ℕ) (z x y : List ℕ)
+      → k ≡ o.refusal → z ≡ put (record_numbers o.after) after → x ≡ put (o.due ∷ o.reset ∷ o.s ∷ o.dropped ∷ o.width ∷ []) answer → y ≡ (heard_of o.refusal f).samples ++ drop 128 samples
+      → Arrives (numbers_arrival e f clock) k z x y
   unfolding arrival_of arrival_by
-  by_outcome h o w numbers z x y m r p q =
-      subst (λ (v : Arrived). Arrives v o.refusal z x y) (sym (fitting_is e f clock h)) (
-        ap (λ (v : Outcome). v.refusal) w,
+  by_outcome h o w k z x y n r p q =
+      subst (λ (v : Moved). Arrives v k z x y) (sym (fitting_is e f clock h)) (
+        n ∙ ap (λ (v : Outcome). v.refusal) w,
         (
-          r ∙ ap (λ (l : List ℕ). put l after) (m ∙ ap (λ (v : Outcome). record_numbers v.after) w),
+          r ∙ ap (λ (v : Outcome). put (record_numbers v.after) after) w,
           (
             p ∙ ap (λ (v : Outcome). put (v.due ∷ v.reset ∷ v.s ∷ v.dropped ∷ v.width ∷ []) answer) w,
             put_heard o.refusal f samples y q ∙ ap (λ (v : Outcome). put (heard_of v.refusal f).samples samples) w,
           ),
         ),
       )
+
+  pub by_judged : unfit e ≡ false → (j : Judged) → outcome_paper j ≡ outcome_of (arrival_of e f clock) → (k : ℕ) (z x y : List ℕ)
+      → k ≡ refusal_of j.outcome → z ≡ put (record_numbers j.after) after → x ≡ put (told_numbers j.outcome) answer → y ≡ (heard_of (refusal_of j.outcome) f).samples ++ drop 128 samples
+      → Arrives (numbers_arrival e f clock) k z x y
+  unfolding outcome_paper
+  by_judged h j w k z x y n r p q = go j.outcome w n p q where
+    go : (d : Result Scheduled Refusal) → outcome_paper (record { outcome = d; after = j.after }) ≡ outcome_of (arrival_of e f clock)
+        → k ≡ refusal_of d → x ≡ put (told_numbers d) answer → y ≡ (heard_of (refusal_of d) f).samples ++ drop 128 samples
+        → Arrives (numbers_arrival e f clock) k z x y
+    go (Ok a) w n p q = by_outcome h (outcome_paper (record { outcome = Ok a; after = j.after })) w k z x y n r p q
+    go (Err t) w n p q = by_outcome h (outcome_paper (record { outcome = Err t; after = j.after })) w k z x y n r p q

@@ -1,15 +1,20 @@
 -- Document 01's record of the endpoint, amended by request A10, as a host keeps it: nine numbers, and the arrival on them.
-use Rattle.std.specs.Prelude.{ℕ, Bool, not, ◌||◌, List, [], ◌∷◌, ltb, eqb, get_or, replicate}
+use Rattle.std.specs.Prelude.{ℕ, Bool, not, ◌||◌, List, [], ◌∷◌, ltb, eqb, get_or, replicate, Result, Ok, Err}
 use Rattle.refusals.specs.Refusals.{if_taken, refuse}
-use Rattle.endpoint.specs.Arrival.{arrival_of}
+use Rattle.refusals.specs.declared.Refusal.{Refusal}
+use Rattle.endpoint.specs.Arrival.{ArrivalHeard, Moved, arrival_of}
 use Rattle.playout.specs.declared.Endpoint.{Endpoint}
 use Rattle.playout.specs.Counts.{count_limit}
-use Rattle.endpoint.specs.declared.Arrival.{Arrival}
-use Rattle.endpoint.specs.declared.Arrived.{Arrived}
+use Rattle.endpoint.specs.declared.Scheduled.{Scheduled}
 
 -- the answer as numbers, in their order
-abbrev pub arrival_numbers : Arrival → List ℕ
+abbrev pub arrival_numbers : ArrivalHeard → List ℕ
 arrival_numbers a = a.due ∷ a.reset ∷ a.s ∷ a.dropped ∷ a.width ∷ []
+
+-- the same of what is judged of a frame, zeros where it is refused
+abbrev pub told_numbers : Result Scheduled Refusal → List ℕ
+told_numbers (Ok a) = a.due ∷ a.reset ∷ a.told.s ∷ a.told.dropped ∷ a.told.width ∷ []
+told_numbers (Err r) = 0 ∷ 0 ∷ 0 ∷ 0 ∷ 0 ∷ []
 
 -- the endpoint's record is nine numbers: B, RSEQ, last clock, end, M_LAST, last noise, scheduled, late, missing
 abbrev pub record_numbers : Endpoint → List ℕ
@@ -34,7 +39,7 @@ abbrev pub record_refusal : ℕ → ℕ
 record_refusal n = refuse (not (eqb n 9)) 14
 
 -- a number, and zeros elsewhere
-abbrev pub refused_arrival : ℕ → Arrival
+abbrev pub refused_arrival : ℕ → ArrivalHeard
 refused_arrival n = record { refusal = n; due = 0; reset = 0; s = 0; dropped = 0; width = 0; samples = replicate 128 0 }
 
 -- a count that fits no field, of which the arrival itself tests nothing
@@ -42,10 +47,6 @@ abbrev pub count_unfit : Endpoint → Bool
 count_unfit e = ltb count_limit e.scheduled || ltb count_limit e.late || ltb count_limit e.missing
 
 -- the arrival on nine numbers: where a count is unfit 14, and the record as it came
-unfoldable pub numbers_arrival : Endpoint → List ℕ → ℕ → Arrived
+unfoldable pub numbers_arrival : Endpoint → List ℕ → ℕ → Moved
 numbers_arrival e f clock =
     if_taken (refuse (count_unfit e) 14) (arrival_of e f clock) (record { answer = refused_arrival 14; after = e })
-
--- a record of nine numbers that come by themselves, for the code alone: no promise of a call cites it
-abbrev pub record_with : ℕ → ℕ → ℕ → ℕ → ℕ → ℕ → ℕ → ℕ → ℕ → Endpoint
-record_with b q c e m n s l g = record { buildout = b; rseq = q; lastclock = c; end = e; mlast = m; lastnoise = n; scheduled = s; late = l; missing = g }

@@ -3,12 +3,13 @@
 
 ghost use Rattle.std.specs.Prelude.{◌≡◌, ◌≤◌, length};
 ghost use Rattle.playout.specs.Play.{fresh_record};
-ghost use Rattle.card.specs.Card.{put as putBefore, written};
-ghost use Rattle.card_record.specs.Record.{arrival_numbers, record_numbers, record_with, record_refusal, refused_arrival, numbers_arrival};
+ghost use Rattle.card.specs.Card.{put as put_before, written};
+ghost use Rattle.card_record.specs.Record.{arrival_numbers, record_numbers, record_of, record_refusal, refused_arrival, told_numbers, numbers_arrival};
 
 use card::put;
+use endpoint::Scheduled;
 use playout::Endpoint;
-use refusals::refuse;
+use refusals::{Refusal, number_of};
 
 // The greatest number that fits a count.
 const COUNT_LIMIT: u64 = 4294967295;
@@ -17,58 +18,65 @@ fn record_numbers(e: Endpoint) -> [u64; 9]
     ensures { result ≡ record_numbers e }
 {
     [
-        e.buildout as u64,
-        e.rseq as u64,
+        u64::from(e.buildout),
+        u64::from(e.rseq),
         e.lastclock,
         e.end,
-        e.mlast as u64,
-        e.lastnoise as u64,
-        e.scheduled as u64,
-        e.late as u64,
-        e.missing as u64,
+        u64::from(e.mlast),
+        u64::from(e.lastnoise),
+        u64::from(e.scheduled),
+        u64::from(e.late),
+        u64::from(e.missing),
     ]
 }
 
-// A fresh record.
+// A fresh record. Here and below the number is C's: these are the exports, but for their archives.
+#[tactic(auto, unfolding(card::specs::Card::written))]
 pub fn pelgrant_fresh(buildout: u8, kept: &mut [u64]) -> u8
     ensures number { result ≡ record_refusal (length kept.old) }
     ensures kept { kept.new ≡ written (record_refusal (length kept.old)) (record_numbers (fresh_record buildout)) kept.old }
 {
-    let flat = refuse(kept.len() != 9, 14);
-    if flat != 0 {
-        return flat;
+    if kept.len() != 9 {
+        return Refusal::Record.number();
     }
-    let numbers = record_numbers(endpoint::fresh(buildout));
-    put(&numbers, kept);
+    put(&record_numbers(endpoint::fresh(buildout)), kept);
     0
 }
 
+// What an arrival answers beside its samples, as numbers: zeros where it is refused.
+fn told_numbers(outcome: Result<Scheduled, Refusal>) -> [u64; 5]
+    ensures { result ≡ told_numbers outcome }
+{
+    match outcome {
+        Ok(a) => [
+            a.due,
+            u64::from(a.reset),
+            u64::from(a.told.s),
+            u64::from(a.told.dropped),
+            u64::from(a.told.width),
+        ],
+        Err(_) => [0; 5],
+    }
+}
+
 // What a record that is none gets: 14, and zeros elsewhere. Both exported arrivals refuse shorter slices first.
+#[tactic(auto, using(refusals::proofs::RefusalLaws::judged), unfolding(card::specs::Card::put, endpoint::specs::Read::heard_of))]
 pub fn no_record(frame: &[u8], answer: &mut [u64], samples: &mut [u8]) -> u8
     requires { (5 ≤ length answer.old) × (128 ≤ length samples.old) }
     ensures number { result ≡ 14 }
-    ensures answer { answer.new ≡ putBefore (arrival_numbers (refused_arrival 14)) answer.old }
-    ensures samples { samples.new ≡ putBefore (refused_arrival 14).samples samples.old }
+    ensures answer { answer.new ≡ put_before (arrival_numbers (refused_arrival 14)) answer.old }
+    ensures samples { samples.new ≡ put_before (refused_arrival 14).samples samples.old }
 {
-    let none = [0u64; 5];
-    put(&none, answer);
-    endpoint::hear_into(14, frame, samples);
-    14
+    let none = Err(Refusal::Record);
+    put(&told_numbers(none), answer);
+    endpoint::hear_into(&none, frame, samples);
+    number_of(&none)
 }
 
-// The arrival on the nine numbers of a record, which come by themselves so that none is read back from memory in another
-// width. A number that fits no field of the record is 14, and the numbers are then left as they came.
+// The arrival on the nine numbers of a record. A number that fits no field of the record is 14, and the numbers are then left as they came.
 // Both exported arrivals refuse shorter slices first.
 pub fn arrival(
-    buildout: u64,
-    rseq: u64,
-    lastclock: u64,
-    end: u64,
-    mlast: u64,
-    lastnoise: u64,
-    scheduled: u64,
-    late: u64,
-    missing: u64,
+    kept: [u64; 9],
     frame: &[u8],
     clock: u64,
     after: &mut [u64],
@@ -76,11 +84,23 @@ pub fn arrival(
     samples: &mut [u8],
 ) -> u8
     requires { (9 ≤ length after.old) × (5 ≤ length answer.old) × (128 ≤ length samples.old) }
-    ensures number { result ≡ (numbers_arrival (record_with buildout rseq lastclock end mlast lastnoise scheduled late missing) frame.now clock).answer.refusal }
-    ensures after { after.new ≡ putBefore (record_numbers (numbers_arrival (record_with buildout rseq lastclock end mlast lastnoise scheduled late missing) frame.now clock).after) after.old }
-    ensures answer { answer.new ≡ putBefore (arrival_numbers (numbers_arrival (record_with buildout rseq lastclock end mlast lastnoise scheduled late missing) frame.now clock).answer) answer.old }
-    ensures samples { samples.new ≡ putBefore (numbers_arrival (record_with buildout rseq lastclock end mlast lastnoise scheduled late missing) frame.now clock).answer.samples samples.old }
+    ensures number { result ≡ (numbers_arrival (record_of kept) frame.now clock).answer.refusal }
+    ensures after { after.new ≡ put_before (record_numbers (numbers_arrival (record_of kept) frame.now clock).after) after.old }
+    ensures answer { answer.new ≡ put_before (arrival_numbers (numbers_arrival (record_of kept) frame.now clock).answer) answer.old }
+    ensures samples { samples.new ≡ put_before (numbers_arrival (record_of kept) frame.now clock).answer.samples samples.old }
 {
+    let [
+        buildout,
+        rseq,
+        lastclock,
+        end,
+        mlast,
+        lastnoise,
+        scheduled,
+        late,
+        missing,
+    ] = kept;
+    // Joined by `|`, and cast where they fit: a record mostly fits, and seven conversions that may fail would be seven branches.
     let unfit = (255 < buildout)
         | (255 < rseq)
         | (255 < mlast)
@@ -98,26 +118,17 @@ pub fn arrival(
     let before = Endpoint {
         buildout: buildout as u8,
         rseq: rseq as u8,
-        lastclock: lastclock,
-        end: end,
+        lastclock,
+        end,
         mlast: mlast as u8,
         lastnoise: lastnoise as u8,
         scheduled: scheduled as u32,
         late: late as u32,
         missing: missing as u32,
     };
-    let o = endpoint::judge(before, &*frame, clock);
-    let numbers = [
-        o.due,
-        o.reset as u64,
-        o.s as u64,
-        o.dropped as u64,
-        o.width as u64,
-    ];
-    put(&numbers, answer);
-    let moved = o.after;
-    let next = record_numbers(moved);
-    put(&next, after);
-    endpoint::hear_into(o.refusal, &*frame, samples);
-    o.refusal
+    let j = endpoint::judge(before, frame, clock);
+    put(&told_numbers(j.outcome), answer);
+    put(&record_numbers(j.after), after);
+    endpoint::hear_into(&j.outcome, frame, samples);
+    number_of(&j.outcome)
 }

@@ -72,11 +72,3 @@ module _ (k : List ℕ) (h : length k ≡ 70) where
 
   pub put_back : (us : List ℕ) → put_mid 67 (length k - 67) k us ≡ take 67 k ++ us
   put_back us = tail_put 67 k us (omega arith)
-
--- as many numbers as before, with three of the first set and the totals put back
-pub put_size : (kept us : List ℕ) (i j l x y z : ℕ) → length us ≡ length (mid_of 67 (length (set (set (set kept i x) j y) l z) - 67) (set (set (set kept i x) j y) l z))
-    → length (put_mid 67 (length (set (set (set kept i x) j y) l z) - 67) (set (set (set kept i x) j y) l z) us) ≡ length kept
-put_size kept us i j l x y z e =
-    let k : List ℕ = set (set (set kept i x) j y) l z in
-    let same : length k ≡ length kept = simp length-set in
-    same_len_mid 67 (length k - 67) k us e ∙ same

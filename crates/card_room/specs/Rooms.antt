@@ -2,9 +2,7 @@
 use Rattle.std.specs.Prelude.{ℕ, List}
 use Rattle.refusals.specs.Refusals.{if_taken}
 use Rattle.room.specs.Rules.{enter_store, take_buffer}
-use Rattle.queue.specs.Calls.{enter_answer, take_answer}
-use Rattle.queue.specs.declared.Entered.{Entered}
-use Rattle.queue.specs.declared.Taken.{Taken}
+use Rattle.queue.specs.Calls.{Entered, enter_answer, Taken, take_answer}
 use Rattle.card_queue.specs.Queues.{queue_of, kept_refusal}
 
 -- the calls on a queue of numbers; one that is none gets 14, and zeros elsewhere

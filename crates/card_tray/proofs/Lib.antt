@@ -1,2 +1,1 @@
-pub mod TraysLaws
 pub mod OneOutcome

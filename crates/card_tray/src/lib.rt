@@ -9,9 +9,11 @@ ghost use Rattle.card.specs.Card.{short, written};
 ghost use Rattle.card_tray.specs.Trays.{forwarded_numbers};
 
 use card::put;
+use onward::Hop;
 use refusals::refusal_16;
 
 // The node: a tray of frames sent on.
+#[tactic(auto, using(refusals::proofs::RefusalLaws::judged), unfolding(card::specs::Card::written))]
 #[unsafe(no_mangle)]
 pub extern "C" fn pelgrant_forward_tray(
     tray: &[u8],
@@ -28,12 +30,23 @@ pub extern "C" fn pelgrant_forward_tray(
     ensures out { out.new ≡ if_taken (short 2 answer.old) (tray_buffer level (wait_of from to) address tray.now out.old list.old) out.old }
     ensures list { list.new ≡ if_taken (short 2 answer.old) (tray_list level (wait_of from to) address tray.now out.old list.old) list.old }
 {
-    let flat = refusal_16(answer.len(), 2);
-    if flat != 0 {
-        return flat;
+    if let Err(flat) = refusal_16(answer.len(), 2) {
+        return flat.number();
     }
-    let a = tray::forward(tray, level, from, to, address, out, list);
-    let numbers = [a.records as u64, a.written as u64];
-    put(&numbers, answer);
-    a.refusal
+    let hop = Hop {
+        level,
+        from,
+        to,
+        address,
+    };
+    match tray::forward(tray, hop, out, list) {
+        Ok(a) => {
+            put(&[a.records as u64, a.written as u64], answer);
+            0
+        }
+        Err(refusal) => {
+            put(&[0, 0], answer);
+            refusal.number()
+        }
+    }
 }

@@ -1,7 +1,8 @@
 -- Document 02, A1, as a host makes it: the calls of a circuit's watch on numbers and on slices that it lends.
-use Rattle.std.specs.Prelude.{ℕ, ◌^◌, ◌-◌, ◌≤◌, ◌≡◌, cond, not, ◌||◌, List, [], ◌∷◌, ltb, eqb, length, get_or}
+use Rattle.std.specs.Prelude.{ℕ, ◌^◌, ◌-◌, cond, not, ◌||◌, List, [], ◌∷◌, ltb, eqb, length, get_or}
 use Rattle.refusals.specs.Refusals.{◌or_else◌, if_taken, refuse}
-use Rattle.watch.specs.Watch.{fresh_watch, only, event_answer}
+use Rattle.watch.specs.Numbers.{originating_number, terminating_number}
+use Rattle.watch.specs.Watch.{Watched, fresh_watch, only, event_answer}
 use Rattle.watch.specs.declared.Originating.{Originating}
 use Rattle.watch.specs.declared.Originating.TheVariants.{Norm as NORMAL, Alarm as ALARM}
 use Rattle.watch.specs.declared.Terminating.{Terminating}
@@ -13,18 +14,8 @@ use Rattle.watch.specs.declared.Conditioning.TheVariants.{Unchanged, Begins, End
 use Rattle.watch.specs.declared.Event.{Event}
 use Rattle.watch.specs.declared.Event.TheVariants.{Passing, Reading, Frame}
 use Rattle.watch.specs.declared.Watch.{Watch}
-use Rattle.watch.specs.declared.Watched.{Watched}
 
--- the states of both ends, what is sent and what becomes of conditioning, as numbers
-abbrev pub originating_number : Originating → ℕ
-originating_number NORMAL = 0
-originating_number ALARM = 1
-
-abbrev pub terminating_number : Terminating → ℕ
-terminating_number NORM = 0
-terminating_number L-ALARM = 1
-terminating_number R-ALARM = 2
-
+-- what is sent and what becomes of conditioning, as numbers
 abbrev pub sends_number : Sends → ℕ
 sends_number Nothing = 0
 sends_number Transition = 1
@@ -72,14 +63,6 @@ watch_refusal kept =
     or_else refuse (ltb 255 (get_or kept 0 0) || ltb (2 ^ 32 - 1) (get_or kept 1 0) || ltb (2 ^ 32 - 1) (get_or kept 2 0)
     || ltb 1 (get_or kept 3 0) || ltb 2 (get_or kept 4 0) || ltb 255 (get_or kept 5 0)) 14
 
--- what holds of numbers that fit
-pub record Fits (kept : List ℕ) : Type 0 where
-  pub nine : length kept ≡ 9
-  pub states_fit : get_or kept 0 0 ≤ 255
-  pub refresh_fits : get_or kept 1 0 ≤ 2 ^ 32 - 1
-  pub keepalive_fits : get_or kept 2 0 ≤ 2 ^ 32 - 1
-  pub bits_fit : get_or kept 5 0 ≤ 255
-
 -- an event that is none
 abbrev pub event_refusal21 : ℕ → ℕ
 event_refusal21 event = refuse (ltb 2 event) 21
@@ -103,8 +86,6 @@ kept_tell kept clock event bits flag =
     (event_answer (watch_of kept) clock (event_numbered event bits flag))
     (only (tell_refusal event kept) (fresh_watch 0 0 0 0))
 
--- what is known of an answer once it is numbers
-pub record Tells (a : Watched) (refusal : ℕ) (numbers after : List ℕ) : Type 0 where
-  pub number : refusal ≡ a.refusal
-  pub answered : numbers ≡ tell_numbers a
-  pub moved : after ≡ watch_numbers a.after
+-- the watch that a refused event leaves: that of the numbers, or zeros where this form refuses them
+unfoldable pub kept_left : List ℕ → ℕ → Watch
+kept_left kept event = if_taken (tell_refusal event kept) (watch_of kept) (fresh_watch 0 0 0 0)

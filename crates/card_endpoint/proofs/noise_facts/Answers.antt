@@ -7,10 +7,6 @@ pub returns-in-Idle : goal.returns-in-Idle
 unfolding paper round of_bits
 returns-in-Idle c = rw c.in-Idle.is (refl, refl, refl)
 
-pub returns-in-Level : goal.returns-in-Level
-unfolding paper round of_bits
-returns-in-Level c = rw c.in-Level.is (refl, refl, refl)
-
 pub returns-in-Refused : goal.returns-in-Refused
 unfolding paper round of_bits
 returns-in-Refused c = rw c.in-Refused.is (refl, refl, refl)
