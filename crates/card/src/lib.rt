@@ -13,7 +13,9 @@ pub fn put(values: &[u64], slot: &mut [u64])
     requires { length values.now ≤ length slot.old }
     ensures { slot.new ≡ put values.now slot.old }
 {
-    slot[..values.len()].copy_from_slice(values);
+    for (i, value) in values.iter().enumerate() {
+        slot[i] = *value;
+    }
 }
 
 // One of two answer slices is too short, for n and for m.

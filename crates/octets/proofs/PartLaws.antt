@@ -20,6 +20,13 @@ tail_put a xs ys h = rw (Post-is a (length xs) xs h, drop-length xs, append-nil 
 pub copied_length : (s d : List ℕ) (i : ℕ) → i ≤ length s → i ≤ length d → length (take i s ++ drop i d) ≡ length d
 copied_length s d i hs hd = simp (length-append, length-take, length-drop) (omega arith)
 
+pub copied_next : {A : Type 0} (s d : List A) (i : ℕ) (a : A) → a ≡ get_or s i a → i < length s → i < length d
+    → set (take i s ++ drop i d) i a ≡ take (i + 1) s ++ drop (i + 1) d
+copied_next s d i a e hs hd =
+    let l : length (take i s) ≡ i = length-take-le i s (omega arith) in
+    rw (add-one, take-suc s i a, append_snoc)
+    (ap (λ r. set (take i s ++ r) i a) (drop-cons d i a hd) ∙ set_at (take i s) (get_or d i a) (drop (suc i) d) a i l ∙ ap (λ x. take i s ++ x ∷ drop (suc i) d) e)
+
 pub copied_more : (s d : List ℕ) (i : ℕ) → i < length s → i < length d
     → set (take i s ++ drop i d) i (get_or s i 0) ≡ take (i + 1) s ++ drop (i + 1) d
 copied_more s d i hs hd =
