@@ -3,13 +3,13 @@ use Prim.Native.Nat.{ℕ, zero, suc, ◌+◌, ◌-◌, ◌*◌, ◌/◌, ◌%◌
 use mathlib.Core.Path.{◌≡◌, refl, sym, ap, ap₂, ◌∙◌}
 use mathlib.Core.Bool.{Bool, true, false, cond}
 use mathlib.Core.List.{List, [], ◌∷◌, ◌++◌, append_assoc, append-nil}
-use native.Mathlib.Nat.{mod-one, zero-mod, zero-div, div-one, mod-lt, mod-eq_of_lt, pow-suc, mul_comm, mul_assoc, one-mul, div-div-eq-div-mul, div-eq_of_lt, add-zero, zero-add, zero-mul, suc-add, not-suc-le-zero, le_of_suc-le-suc, zero-min, min-zero, suc-min-suc, sub-zero, zero-sub, suc-sub-suc}
+use native.Mathlib.Nat.{mod-one, zero-mod, zero-div, div-one, mod-lt, mod-eq_of_lt, pow-suc, mul_comm, mul_assoc, one-mul, div-div-eq-div-mul, div-eq_of_lt, add-zero, zero-add, zero-mul, suc-add, not-suc-le-zero, le_of_suc-le-suc, zero-min, min-zero, suc-min-suc, sub-zero, zero-sub, suc-sub-suc, lt_of_lt_of_le}
 use native.Mathlib.Numerals.{add-one}
 use native.Mathlib.Omega.{arith}
 use lib.Dec.{eqb, lit<}
 use lib.Arith.{mod-mul, digits_lt}
 use lib.Bits.{bit_and, and_mask}
-use lib.Pow.{pow_pos, pow-add, shl_exact}
+use lib.Pow.{pow_pos, pow-add, shl_exact, pow_mono}
 use lib.ListN.{length, get_or, set, take, drop, replicate, length-append, length-drop, length-replicate, drop_of_length-le}
 use borrow.Rule.Slice.PartMut.{put_mid}
 use Rattle.std.specs.Int.{w64, from_le_bytes}
@@ -281,6 +281,19 @@ word_is f x h o ex e =
     e ∙ ap (from_le_bytes w64) eg ∙ le_bytes_is g lg og
     ∙ ap value (bits_append f (replicate k 0)) ∙ value_append (bits f) (bits (replicate k 0))
     ∙ ap (λ (v : ℕ). value (bits f) + v * 2 ^ length (bits f)) (zeros_none k) ∙ omega (arith, zero-mul (2 ^ length (bits f)))
+
+-- one octet more, from the last on
+pub made_more : (s : List ℕ) (k w a : ℕ) → 0 < k → k ≤ length s → w ≡ value (bits (drop k s)) → a ≡ get_or s (k - 1) 0 → a < 256
+    → w * 256 + a ≡ value (bits (drop (k - 1) s))
+made_more s k w a p h e q f =
+    let n : suc (k - 1) ≡ k = omega arith in
+    rw (drop-cons s (k - 1) 0 (omega arith), n, ← q, value_octet a (drop k s) f, e) (omega arith)
+
+-- of fewer than seven octets
+pub few_lt : (s : List ℕ) (k : ℕ) → length s < k + 7 → value (bits (drop k s)) < 2 ^ 48
+few_lt s k h =
+    let n : length (bits (drop k s)) ≤ 48 = omega (arith, length_bits (drop k s), length-drop k s) in
+    lt_of_lt_of_le (value_lt (bits (drop k s))) (pow_mono n)
 
 -- ---- a part of a part
 

@@ -14,6 +14,18 @@ fn word(octets: &[u8]) -> u64
     u64::from_le_bytes(eight)
 }
 
+// The same of fewer than eight, one by one: a copy of as many as there are is a call that a host would have to link.
+fn few(octets: &[u8]) -> u64
+    requires { length octets.now < 8 }
+    ensures { result ≡ value (bits octets.now) }
+{
+    let mut w = 0;
+    for k in (0..octets.len()).rev() {
+        w = w * 256 + u64::from(octets[k]);
+    }
+    w
+}
+
 // Eight octets from j on. Here and below the callers keep within the slice.
 pub fn eight(s: &[u8], j: usize) -> u64
     requires { j + 8 ≤ length s.now }
@@ -27,7 +39,7 @@ fn from(s: &[u8], j: usize) -> u64
     ensures { result ≡ value (bits (take 8 (drop j s.now))) }
 {
     if s.len() - j < 8 {
-        word(&s[j..])
+        few(&s[j..])
     } else {
         eight(s, j)
     }

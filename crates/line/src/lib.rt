@@ -69,7 +69,8 @@ fn mark(w: u64, n: usize, what: Sought) -> u64
     }
 }
 
-// The first place from `place` on where what is sought stands; the count where there is none.
+// The first place from `place` on where what is sought stands; the count where there is none. Inlined, as `piece` of `zeros` is.
+#[inline(always)]
 fn seek(line: &[u8], count: usize, place: usize, what: Sought) -> usize
     requires { (place ≤ count) × (count ≤ 8 * length line.now) }
     ensures { result ≡ place + until (sought what) (drop place (take count (bits line.now))) }
