@@ -8,7 +8,7 @@ use lib.Dec.{ltb}
 use lib.ListN.{drop}
 use borrow.Author.Tests.{ltb-false, le-ltb}
 use Rattle.octets.proofs.BoolLaws.{or_false}
-use Rattle.std.specs.Prelude.{Result, Ok, Err}
+use Rattle.std.specs.Prelude.{Result, IsOk, Ok, Err}
 use Rattle.refusals.specs.Refusals.{if_taken, refuse, refusal_of}
 use Rattle.refusals.specs.declared.Refusal.{Refusal}
 use Rattle.endpoint.specs.declared.Scheduled.{Scheduled}
@@ -111,6 +111,10 @@ unfolding outcome_paper
 outcome_number (Ok a) l = refl
 outcome_number (Err r) l = refl
 
+pub scheduled : (d : Result Scheduled Refusal) → IsOk d → refusal_of d ≡ 0
+scheduled (Ok a) h = refl
+scheduled (Err r) h = cc
+
 -- ---- an arrival by its outcome: the number, the record, the answer and the samples
 
 module _ (e : Endpoint) (f : List ℕ) (clock : ℕ) (after answer samples : List ℕ) where
@@ -124,7 +128,7 @@ module _ (e : Endpoint) (f : List ℕ) (clock : ℕ) (after answer samples : Lis
       → Arrives (numbers_arrival e f clock) k z x y
   by_unfit h k z x y n r p q = subst (λ (v : Moved). Arrives v k z x y) (sym (unfit_is e f clock h)) (n, (r, (p, q)))
 
-  by_outcome : unfit e ≡ false → (o : Outcome) → o ≡ outcome_of (arrival_of e f clock) → (k : ℕ) (z x y : List ℕ)
+  pub by_outcome : unfit e ≡ false → (o : Outcome) → o ≡ outcome_of (arrival_of e f clock) → (k : ℕ) (z x y : List ℕ)
       → k ≡ o.refusal → z ≡ put (record_numbers o.after) after → x ≡ put (o.due ∷ o.reset ∷ o.s ∷ o.dropped ∷ o.width ∷ []) answer → y ≡ (heard_of o.refusal f).samples ++ drop 128 samples
       → Arrives (numbers_arrival e f clock) k z x y
   unfolding arrival_of arrival_by

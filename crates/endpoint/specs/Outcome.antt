@@ -1,12 +1,12 @@
 -- An answer without its samples, which a call that is lent the samples' slice writes there itself. No promise of a host's call cites it.
-use Rattle.std.specs.Prelude.{ℕ, Result, Ok, Err}
+use Rattle.std.specs.Prelude.{ℕ, List, Result, Ok, Err}
 use Rattle.refusals.specs.Refusals.{number}
 use Rattle.refusals.specs.declared.Refusal.{Refusal}
 use Rattle.playout.specs.declared.Endpoint.{Endpoint}
 use Rattle.endpoint.specs.declared.Told.{Told}
 use Rattle.endpoint.specs.declared.Scheduled.{Scheduled}
 use Rattle.endpoint.specs.declared.Judged.{Judged}
-use Rattle.endpoint.specs.Read.{Heard}
+use Rattle.endpoint.specs.Read.{Heard, heard_of}
 use Rattle.endpoint.specs.Arrival.{Moved}
 
 -- zeros where a frame is refused
@@ -16,6 +16,16 @@ told_paper (Err r) = record { s = 0; dropped = 0; width = 0 }
 
 abbrev pub told_of : Heard → Told
 told_of h = record { s = h.s; dropped = h.dropped; width = h.width }
+
+-- what is told of a frame, or what it is refused by, which is handed on: a `Refusal`, a number or anything else
+abbrev pub told_or : {E : Type 0} → Result (Unit {0}) E → List ℕ → Result Told E
+told_or (Ok u) f = Ok (told_of (heard_of 0 f))
+told_or (Err r) f = Err r
+
+-- and its samples, zeros where it is refused: the number is of no account, and 1 stands for any
+abbrev pub samples_or : {A E : Type 0} → Result A E → List ℕ → List ℕ
+samples_or (Ok a) f = (heard_of 0 f).samples
+samples_or (Err r) f = (heard_of 1 f).samples
 
 pub record Outcome : Type 0 where
   pub refusal : ℕ

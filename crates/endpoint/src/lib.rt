@@ -1,12 +1,12 @@
 // All that hears a frame: the reader, the arrival, signalling, and fill.
 #![tactic(auto)]
 
-ghost use Rattle.std.specs.Prelude.{◌≡◌, ◌++◌, ◌≤◌, length, drop, replicate};
+ghost use Rattle.std.specs.Prelude.{◌≡◌, ◌++◌, ◌≤◌, IsOk, length, drop, replicate};
 ghost use Rattle.refusals.specs.Refusals.{◌or_else◌, refusal_of};
 ghost use Rattle.frame.specs.Orders.{voice_refusal};
 ghost use Rattle.playout.specs.Play.{fresh_record, refusal14, refusal18, decision_paper};
 ghost use Rattle.endpoint.specs.Arrival.{frame_decision, reset_of, arrival_of, arrival_paper, arrived_paper};
-ghost use Rattle.endpoint.specs.Outcome.{told_of, told_paper, outcome_of, outcome_paper};
+ghost use Rattle.endpoint.specs.Outcome.{told_of, told_or, samples_or, outcome_of, outcome_paper};
 ghost use Rattle.endpoint.specs.Fill.{fill_of};
 ghost use Rattle.endpoint.specs.Read.{samples_of, heard_of, heard_paper, read_answer};
 ghost use Rattle.endpoint.specs.Signal.{signal_order, signal_answer, signal_paper};
@@ -23,7 +23,7 @@ pub fn fresh(buildout: u8) -> Endpoint
     ensures { result ≡ fresh_record buildout }
 {
     Endpoint {
-        buildout,
+        buildout, // as it is given: what uses it judges it
         rseq: 0,
         lastclock: 0,
         end: 0,
@@ -59,14 +59,14 @@ fn tell_taken(frame: &[u8]) -> Told
     }
 }
 
-// Of a frame that is refused as given, or is not.
-#[tactic(auto, using(refusals::proofs::RefusalLaws::judged), unfolding(crate::specs::Read::heard_of, crate::specs::Outcome::told_paper))]
-pub fn tell(given: Result<(), Refusal>, frame: &[u8]) -> Result<Told, Refusal>
-    ensures number { refusal_of result ≡ refusal_of given }
-    ensures told { told_paper result ≡ told_of (heard_of (refusal_of given) frame.now) }
+// Of a frame that is refused as given, or is not. What it is refused by is handed on, a `Refusal` or any other value.
+pub fn tell<E>(given: Result<(), E>, frame: &[u8]) -> Result<Told, E>
+    ensures { result ≡ told_or given frame.now }
 {
-    given?;
-    Ok(tell_taken(frame))
+    match given {
+        Ok(()) => Ok(tell_taken(frame)),
+        Err(refusal) => Err(refusal),
+    }
 }
 
 // 128 zeros. `hear_into` has the room.
@@ -87,12 +87,12 @@ fn read_words(frame: &[u8]) -> [u8; 128]
     read_blocks(frame, usize::from(t.width), usize::from(t.width))
 }
 
-// What is heard of a frame, into a slice of 128 or more: zeros where it is refused, written once. The callers' proofs show
-// the room, and that no number of the voice reader's order applies where none is given.
-#[tactic(auto, using(refusals::proofs::RefusalLaws::judged), unfolding(crate::specs::Read::heard_of))]
-pub fn hear_into<T>(given: &Result<T, Refusal>, frame: &[u8], samples: &mut [u8])
-    requires { (refusal_of given.now ≡ 0 → voice_refusal frame.now ≡ 0) × (128 ≤ length samples.old) }
-    ensures { samples.new ≡ (heard_of (refusal_of given.now) frame.now).samples ++ drop 128 samples.old }
+// What is heard of a frame, into a slice of 128 or more: zeros where it is refused, by a `Refusal` or any other value, written once.
+// The callers' proofs show the room, and that no number of the voice reader's order applies where none is given.
+#[tactic(auto, unfolding(crate::specs::Read::heard_of))]
+pub fn hear_into<T, E>(given: &Result<T, E>, frame: &[u8], samples: &mut [u8])
+    requires { (IsOk given.now → voice_refusal frame.now ≡ 0) × (128 ≤ length samples.old) }
+    ensures { samples.new ≡ samples_or given.now frame.now ++ drop 128 samples.old }
 {
     match given {
         Ok(_) => samples[..128].copy_from_slice(&read_words(frame)),
@@ -240,13 +240,35 @@ pub fn arrive_value(e: Endpoint, frame: &[u8], clock: u64) -> Arrived
     }
 }
 
-// The same arrival on a record that is lent and moved on in place.
+// The same arrival on a record that is lent: it is taken apart, decided by value and moved on in place.
 #[tactic(auto, unfolding(crate::specs::Arrival::arrived_paper))]
 pub fn arrive(e: &mut Endpoint, frame: &[u8], clock: u64) -> Result<Arrival, Refusal>
     ensures { (e.new ≡ (arrival_of e.old frame.now clock).after)
         × (arrival_paper result ≡ (arrival_of e.old frame.now clock).answer) }
 {
-    let a = arrive_value(*e, frame, clock);
+    let Endpoint {
+        buildout,
+        rseq,
+        lastclock,
+        end,
+        mlast,
+        lastnoise,
+        scheduled,
+        late,
+        missing,
+    } = *e;
+    let before = Endpoint {
+        buildout,
+        rseq,
+        lastclock,
+        end,
+        mlast,
+        lastnoise,
+        scheduled,
+        late,
+        missing,
+    };
+    let a = arrive_value(before, frame, clock);
     *e = a.after;
     a.answer
 }

@@ -238,7 +238,7 @@ pub fn taken_refusal(frame: &[u8]) -> Result<(), Refusal>
 pub fn voice_refusal(frame: &[u8]) -> Result<(), Refusal>
     ensures { refusal_of result ≡ voice_refusal frame.now }
 {
-    link_refusal(frame)?;
+    link_refusal(frame)?; // whole, before it is asked whether it is voice
     refusal_19(frame, true)?;
     refusal_6(frame)?;
     layout_refusal(frame)

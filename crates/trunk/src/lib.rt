@@ -2,17 +2,14 @@
 #![tactic(auto)]
 
 ghost use Rattle.std.specs.Prelude.{◌≡◌};
-ghost use Rattle.endpoint.specs.Signal.{signal_paper};
-ghost use Rattle.trunk.specs.Trunk.{event_of};
+ghost use Rattle.trunk.specs.Trunk.{event_of, heard_as};
 
 use endpoint::SignalFacts;
-use refusals::Refusal;
 use watch::Event;
 
-// A frame that the signalling reader refuses is not taken: only time has passed.
-#[tactic(auto, using(refusals::proofs::RefusalLaws::judged), unfolding(endpoint::specs::Signal::signal_paper))]
-pub fn event_of(heard: Result<SignalFacts, Refusal>) -> Event
-    ensures { result ≡ event_of (signal_paper heard) }
+// A frame that the signalling reader refuses is not taken: only time has passed. What refuses it may be a `Refusal`, a number or anything else.
+pub fn event_of<E: Drop>(heard: Result<SignalFacts, E>) -> Event
+    ensures { result ≡ event_of (heard_as heard) }
 {
     match heard {
         Ok(signal) => Event::Frame { na: signal.na },

@@ -1,9 +1,10 @@
 -- `card_record::arrival` meets its contract.
-use Rattle.std.proofs.Common.{List, ℕ, ap, ◌∙◌, arith}
+use Rattle.std.proofs.Common.{List, ℕ, ap, ◌∙◌, ◌++◌, drop, arith}
 use Rattle.card.specs.Card.{put}
+use Rattle.endpoint.proofs.ReadLaws.{samples_given}
 use Rattle.endpoint.proofs.ArrivalLaws.{outcome_readable}
 use Rattle.card_record.specs.Record.{record_of}
-use Rattle.card_record.proofs.RecordLaws.{Fits, fitting, by_unfit, by_judged, outcome_number}
+use Rattle.card_record.proofs.RecordLaws.{Fits, fitting, by_unfit, by_judged, outcome_number, scheduled}
 use Rattle.card_record.proofs.arrival.Goals as goal
 
 -- each number fits its field, where none was found that does not
@@ -46,7 +47,7 @@ pub hear_into-requires : goal.hear_into-requires
 hear_into-requires c =
     let j = c.judge-j in
     let a = c.args in (
-      λ z. outcome_readable (record_of a.kept) a.frame.now a.clock _ j.ensures (outcome_number j.result.outcome j.result.after ∙ z),
+      λ z. outcome_readable (record_of a.kept) a.frame.now a.clock _ j.ensures (outcome_number j.result.outcome j.result.after ∙ scheduled j.result.outcome z),
       c.requires.2,
     )
 
@@ -56,4 +57,4 @@ returns c =
     let a = c.args in let made_of =
     by_judged (record_of a.kept) a.frame.now a.clock a.after.now a.answer.now a.samples.now c.if-unfit.false j.result j.ensures
     c.number_of.result c.put-3.new.slot c.put-2.new.slot c.hear_into.new.samples c.number_of.ensures (c.put-3.ensures ∙ ap (λ (l : List ℕ). put l a.after.now) c.record_numbers.ensures)
-    (c.put-2.ensures ∙ ap (λ (l : List ℕ). put l a.answer.now) c.told_numbers.ensures) c.hear_into.ensures in record { number = made_of.0; after = made_of.1.0; answer = made_of.1.1.0; samples = made_of.1.1.1 }
+    (c.put-2.ensures ∙ ap (λ (l : List ℕ). put l a.answer.now) c.told_numbers.ensures) (c.hear_into.ensures ∙ ap (λ (l : List ℕ). l ++ drop 128 a.samples.now) (samples_given j.result.outcome a.frame.now)) in record { number = made_of.0; after = made_of.1.0; answer = made_of.1.1.0; samples = made_of.1.1.1 }
